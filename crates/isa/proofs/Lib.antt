@@ -1,0 +1,4 @@
+pub mod Each
+pub mod Fields
+pub mod Operands
+pub mod RoundTrip

@@ -1,0 +1,70 @@
+-- `instruction_at` reads the opcode table: each arm of the match is a row, and an opcode of no arm has no row.
+-- Assumes nothing.
+use mathlib.Core.Path.{sym}
+use Rattle.isa.specs.Words.{instructionAt}
+use Rattle.isa.proofs.RoundTrip.{at, without-row}
+use Rattle.isa.proofs.word.instruction_at.Statement.{statement}
+use Rattle.isa.proofs.word.instruction_at.Tie as tie
+
+pub instruction-at-spec : {M : Type 1} → statement M
+unfolding instructionAt
+instruction-at-spec =
+    tie.close
+    (tie.spec
+    (λ c. at _ _ (c .match .keys1))
+    (λ c. at _ _ (c .match .keys2))
+    (λ c. at _ _ (c .match .keys3))
+    (λ c. at _ _ (c .match .keys4))
+    (λ c. at _ _ (c .match .keys5))
+    (λ c. at _ _ (c .match .keys6))
+    (λ c. at _ _ (c .match .keys7))
+    (λ c. at _ _ (c .match .keys8))
+    (λ c. at _ _ (c .match .keys9))
+    (λ c. at _ _ (c .match .keys10))
+    (λ c. at _ _ (c .match .keys11))
+    (λ c. at _ _ (c .match .keys12))
+    (λ c. at _ _ (c .match .keys13))
+    (λ c. at _ _ (c .match .keys14))
+    (λ c. at _ _ (c .match .keys15))
+    (λ c. at _ _ (c .match .keys16))
+    (λ c. at _ _ (c .match .keys17))
+    (λ c. at _ _ (c .match .keys18))
+    (λ c. at _ _ (c .match .keys19))
+    (λ c. at _ _ (c .match .keys20))
+    (λ c. at _ _ (c .match .keys21))
+    (λ c. at _ _ (c .match .keys22))
+    (λ c. at _ _ (c .match .keys23))
+    (λ c. at _ _ (c .match .keys24))
+    (λ c. at _ _ (c .match .keys25))
+    (λ c. at _ _ (c .match .keys26))
+    (λ c. at _ _ (c .match .keys27))
+    (λ c. at _ _ (c .match .keys28))
+    (λ c. at _ _ (c .match .keys29))
+    (λ c. at _ _ (c .match .keys30))
+    (λ c. at _ _ (c .match .keys31))
+    (λ c. at _ _ (c .match .keys32))
+    (λ c. at _ _ (c .match .keys33))
+    (λ c. at _ _ (c .match .keys34))
+    (λ c. at _ _ (c .match .keys35))
+    (λ c. at _ _ (c .match .keys36))
+    (λ c. at _ _ (c .match .keys37))
+    (λ c. at _ _ (c .match .keys38))
+    (λ c. at _ _ (c .match .keys39))
+    (λ c. at _ _ (c .match .keys40))
+    (λ c. at _ _ (c .match .keys41))
+    (λ c. at _ _ (c .match .keys42))
+    (λ c. at _ _ (c .match .keys43))
+    (λ c. at _ _ (c .match .keys44))
+    (λ c. at _ _ (c .match .keys45))
+    (λ c. at _ _ (c .match .keys46))
+    (λ c. at _ _ (c .match .keys47))
+    (λ c. at _ _ (c .match .keys48))
+    (λ c. at _ _ (c .match .keys49))
+    (λ c. at _ _ (c .match .keys50))
+    (λ c. at _ _ (c .match .keys51))
+    (λ c. at _ _ (c .match .keys52))
+    (λ c. at _ _ (c .match .keys53))
+    (λ c. at _ _ (c .match .keys54))
+    (λ c. at _ _ (c .match .keys55))
+    (λ c. at _ _ (c .match .keys56))
+    (λ c. sym (without-row _ _ _ (c .match .rest))))

@@ -1,0 +1,198 @@
+// Words to instructions and back.
+ghost use mathlib.Core.Path.{_≡_};
+ghost use Prim.Native.Nat.{_<_};
+ghost use lib.Dec.{eqb};
+ghost use Rattle.isa.specs.Words.{built, instructionAt, decodeOf, wordOf, wordIn, encodeOf};
+ghost use Rattle.isa.specs.RoundTrip.{Decodes, Encodes};
+use crate::Decoded;
+use crate::Instr;
+use crate::form::Form;
+
+// How many of its two fields are operands of each opcode; 3 for an opcode that is not built.
+const OPERANDS: [u8; 64] = [
+    2,
+    2,
+    2,
+    2,
+    2,
+    2,
+    2,
+    2,
+    1,
+    2,
+    2,
+    2,
+    1,
+    2,
+    2,
+    2,
+    2,
+    2,
+    2,
+    1,
+    2,
+    2,
+    1,
+    2,
+    2,
+    2,
+    2,
+    2,
+    2,
+    2,
+    2,
+    2,
+    1,
+    1,
+    2,
+    2,
+    2,
+    2,
+    1,
+    3,
+    3,
+    2,
+    3,
+    2,
+    2,
+    3,
+    3,
+    2,
+    3,
+    2,
+    2,
+    1,
+    2,
+    2,
+    3,
+    2,
+    2,
+    0,
+    2,
+    2,
+    2,
+    2,
+    1,
+    3,
+];
+
+// Whether the three fields are a built word's: those that are no operands must be zero.
+fn is_built(op: u32, s: u32, d: u32) -> bool
+    requires { ⌜ op < 64 ⌝ }
+    ensures { λ r. ⌜ r ≡ built op (eqb s 0) (eqb d 0) ⌝ }
+{
+    let n = OPERANDS[op as usize];
+    match n {
+        0 => if s == 0 { d == 0 } else { false },
+        1 => s == 0,
+        2 => true,
+        _ => false,
+    }
+}
+
+// The instruction of an opcode and two fields; a NOP where the opcode is not built.
+fn instruction_at(op: u32, s: u32, d: u32) -> Instr
+    ensures { λ r. ⌜ r ≡ instructionAt op s d ⌝ }
+{
+    match op {
+        0 => Instr::Add(s, d),
+        1 => Instr::Addc(s, d),
+        2 => Instr::Addq(s, d),
+        3 => Instr::Addqt(s, d),
+        4 => Instr::Sub(s, d),
+        5 => Instr::Subc(s, d),
+        6 => Instr::Subq(s, d),
+        7 => Instr::Subqt(s, d),
+        8 => Instr::Neg(d),
+        9 => Instr::And(s, d),
+        10 => Instr::Or(s, d),
+        11 => Instr::Xor(s, d),
+        12 => Instr::Not(d),
+        13 => Instr::Btst(s, d),
+        14 => Instr::Bset(s, d),
+        15 => Instr::Bclr(s, d),
+        16 => Instr::Mult(s, d),
+        17 => Instr::Imult(s, d),
+        18 => Instr::Imultn(s, d),
+        19 => Instr::Resmac(d),
+        20 => Instr::Imacn(s, d),
+        21 => Instr::Div(s, d),
+        22 => Instr::Abs(d),
+        23 => Instr::Sh(s, d),
+        24 => Instr::Shlq(s, d),
+        25 => Instr::Shrq(s, d),
+        26 => Instr::Sha(s, d),
+        27 => Instr::Sharq(s, d),
+        28 => Instr::Ror(s, d),
+        29 => Instr::Rorq(s, d),
+        30 => Instr::Cmp(s, d),
+        31 => Instr::Cmpq(s, d),
+        32 => Instr::Sat8(d),
+        33 => Instr::Sat16(d),
+        34 => Instr::Move(s, d),
+        35 => Instr::Moveq(s, d),
+        36 => Instr::Moveta(s, d),
+        37 => Instr::Movefa(s, d),
+        38 => Instr::Movei(d),
+        41 => Instr::Load(s, d),
+        43 => Instr::LoadR14n(s, d),
+        44 => Instr::LoadR15n(s, d),
+        47 => Instr::Store(s, d),
+        49 => Instr::StoreR14n(s, d),
+        50 => Instr::StoreR15n(s, d),
+        51 => Instr::MovePc(d),
+        52 => Instr::Jump(s, d),
+        53 => Instr::Jr(s, d),
+        55 => Instr::Mtoi(s, d),
+        56 => Instr::Normi(s, d),
+        57 => Instr::Nop,
+        58 => Instr::LoadR14r(s, d),
+        59 => Instr::LoadR15r(s, d),
+        60 => Instr::StoreR14r(s, d),
+        61 => Instr::StoreR15r(s, d),
+        62 => Instr::Sat24(d),
+        _ => Instr::Nop,
+    }
+}
+
+// The instruction that a word is, if it is built.
+pub fn decode(word: u16) -> Decoded
+    ensures { λ r. ⌜ r ≡ decodeOf word ⌝ }
+    ensures { λ r. ⌜ Decodes word r ⌝ }
+{
+    let w = word as u32;
+    let op = w / 1024;
+    let s = w / 32 % 32;
+    let d = w % 32;
+    if is_built(op, s, d) {
+        Decoded::Built(instruction_at(op, s, d))
+    } else {
+        Decoded::NotBuilt
+    }
+}
+
+// The word of three fields.
+fn assemble(op: u32, s: u32, d: u32) -> u16
+    ensures { λ r. ⌜ r ≡ wordOf op s d ⌝ }
+{
+    (op % 64 * 1024 + s % 32 * 32 + d % 32) as u16
+}
+
+// The word of a form: a field that is no operand is zero.
+fn word_in(f: Form) -> u16
+    ensures { λ r. ⌜ r ≡ wordIn f ⌝ }
+{
+    match f {
+        Form::Two(op, s, d) => assemble(op, s, d),
+        Form::One(op, d) => assemble(op, 0, d),
+        Form::Implied(op) => assemble(op, 0, 0),
+    }
+}
+
+// The word that an instruction is. An operand too large for its field counts by its low five bits.
+pub fn encode(i: Instr) -> u16
+    ensures { λ r. ⌜ r ≡ encodeOf i ⌝ }
+    ensures { λ r. ⌜ Encodes i r ⌝ }
+{
+    word_in(i.form())
+}
