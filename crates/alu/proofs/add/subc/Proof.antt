@@ -1,0 +1,20 @@
+-- `subc` meets its contract.
+-- Assumes nothing.
+use borrow.Author.Needs.{needs}
+use Rattle.alu.proofs.add.subc.Statement.{statement}
+use Rattle.alu.proofs.add.subc.Tie as tie
+
+returns : tie.Need-returns
+returns c = rw (c .bit .ensures)
+
+pub subc-spec : {M : Type 1} → statement M
+subc-spec =
+    tie.close
+    (tie.spec
+    (λ c. search needs)
+    (λ c. search needs)
+    (λ c. search needs)
+    (λ c. search needs)
+    (λ c. search needs)
+    (λ c κs. search needs)
+    returns)
