@@ -2,10 +2,10 @@
 use Prim.Native.Nat.{ℕ, _+_, _-_, _/_, _%_, _^_}
 use lib.Dec.{ltb}
 use lib.IntN.{ℤ, natAbs}
-use Rattle.alu.specs.declared.Computed.{Computed}
-use Rattle.alu.specs.declared.Flags.{Flags}
-use Rattle.alu.specs.Results.{bitOf, computedOf, flagsOf}
-use Rattle.alu.specs.Signed.{signedOf, unsignedOf}
+use Rattle.values.specs.declared.Computed.{Computed}
+use Rattle.values.specs.declared.Flags.{Flags}
+use Rattle.values.specs.Results.{bitOf, computedOf, flagsOf}
+use Rattle.values.specs.Signed.{signedOf, unsignedOf}
 
 -- "ADD, ADDC, ADDQ: C is carry out."
 abbrev pub addOf : ℕ → ℕ → Computed

@@ -3,8 +3,8 @@ use Prim.Native.Nat.{ℕ, _+_, _*_, _/_, _%_, _^_}
 use mathlib.Core.Bool.{Bool, true, false, not, cond}
 use lib.Dec.{eqb}
 use lib.IntN.{ℤ}
-use Rattle.alu.specs.declared.Flags.{Flags}
-use Rattle.alu.specs.Signed.{unsignedOf}
+use Rattle.values.specs.declared.Flags.{Flags}
+use Rattle.values.specs.Signed.{unsignedOf}
 
 abbrev pub metOf : Bool → Bool → Bool
 metOf asked holds = cond asked holds true

@@ -2,9 +2,9 @@
 use Prim.Native.Nat.{ℕ, _-_, _/_, _%_, _^_}
 use lib.Bits.{bitAnd, bitOr, bitXor}
 use lib.Dec.{eqb}
-use Rattle.alu.specs.declared.Computed.{Computed}
-use Rattle.alu.specs.declared.Flags.{Flags}
-use Rattle.alu.specs.Results.{bitOf, computedOf}
+use Rattle.values.specs.declared.Computed.{Computed}
+use Rattle.values.specs.declared.Flags.{Flags}
+use Rattle.values.specs.Results.{bitOf, computedOf}
 
 abbrev pub andOf : ℕ → ℕ → ℕ → Computed
 andOf d s c = computedOf (bitAnd d s) c

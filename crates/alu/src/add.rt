@@ -1,11 +1,11 @@
 // ADD, ADDC, SUB, SUBC, NEG, ABS, CMP and CMPQ. ADDQ, ADDQT, SUBQ and SUBQT are add and sub of a quick number.
 ghost use mathlib.Core.Path.{_≡_};
 ghost use Rattle.alu.specs.Add.{addOf, addcOf, subOf, subcOf, negOf, absOf, cmpOf, cmpqOf};
-use crate::Computed;
-use crate::Flags;
-use crate::bit;
-use crate::signed::magnitude;
-use crate::signed::unsigned;
+use values::Computed;
+use values::Flags;
+use values::bit;
+use values::signed::magnitude;
+use values::signed::unsigned;
 
 pub fn add(d: u32, s: u32) -> Computed
     ensures { λ r. ⌜ r ≡ addOf d s ⌝ }

@@ -2,8 +2,8 @@
 ghost use mathlib.Core.Path.{_≡_};
 ghost use mathlib.Core.Bool.{cond, false};
 ghost use Rattle.alu.specs.Jump.{metOf, takenOf, targetOf};
-use crate::Flags;
-use crate::signed::unsigned;
+use values::Flags;
+use values::signed::unsigned;
 
 fn both(a: bool, b: bool) -> bool
     ensures { λ r. ⌜ r ≡ cond a b false ⌝ }

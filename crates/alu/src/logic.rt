@@ -1,9 +1,9 @@
 // AND, OR, XOR, NOT, BTST, BSET and BCLR.
 ghost use mathlib.Core.Path.{_≡_};
 ghost use Rattle.alu.specs.Logic.{andOf, orOf, xorOf, notOf, btstOf, bsetOf, bclrOf};
-use crate::Computed;
-use crate::Flags;
-use crate::bit;
+use values::Computed;
+use values::Flags;
+use values::bit;
 
 pub fn and(d: u32, s: u32, c: u32) -> Computed
     ensures { λ r. ⌜ r ≡ andOf d s c ⌝ }

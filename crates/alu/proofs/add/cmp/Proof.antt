@@ -2,7 +2,7 @@
 -- Assumes nothing.
 use borrow.Author.Needs.{needs}
 use mathlib.Core.Path.{_∙_, ap}
-use Rattle.alu.specs.Results.{flagsOf}
+use Rattle.values.specs.Results.{flagsOf}
 use Rattle.alu.proofs.add.cmp.Statement.{statement}
 use Rattle.alu.proofs.add.cmp.Tie as tie
 

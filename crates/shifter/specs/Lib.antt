@@ -1,0 +1,3 @@
+pub mod Shift
+pub mod Saturate
+pub mod Normalise

@@ -1,0 +1,37 @@
+// Values of 32 bits: results and flags of the operations, and two's complement.
+//
+// A register is a u32, and a flag is 0 or 1.
+ghost use mathlib.Core.Path.{_≡_};
+ghost use Rattle.values.specs.Results.{bitOf, flagsOf};
+
+pub mod signed;
+
+// A result and C after it. Z and N follow the result.
+pub struct Computed {
+    pub value: u32,
+    pub carry: u32,
+}
+
+pub struct Flags {
+    pub z: u32,
+    pub n: u32,
+    pub c: u32,
+}
+
+pub fn bit(on: bool) -> u32
+    ensures { λ r. ⌜ r ≡ bitOf on ⌝ }
+{
+    if on { 1 } else { 0 }
+}
+
+impl Computed {
+    pub fn flags(self) -> Flags
+        ensures { λ r. ⌜ r ≡ flagsOf self ⌝ }
+    {
+        Flags {
+            z: bit(self.value == 0),
+            n: self.value / 2147483648,
+            c: self.carry,
+        }
+    }
+}
