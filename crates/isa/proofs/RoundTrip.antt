@@ -2,7 +2,7 @@
 -- Assumes nothing.
 use Prim.Native.Nat.{ℕ, _+_, _*_, _/_, _%_, _<_, _≤_}
 use mathlib.Core.Path.{_≡_, refl, sym, ap, subst, _∙_}
-use mathlib.Core.Bool.{Bool, true, false, cond}
+use mathlib.Core.Bool.{Bool, true, false, cond, _||_}
 use mathlib.Core.List.{List, [], _∷_}
 use native.Mathlib.Omega.{arith}
 use borrow.Author.Tests.{eqb-true, ltb-true, ne-eqb}
@@ -13,7 +13,7 @@ use Rattle.isa.specs.declared.Decoded.{Decoded}
 use Rattle.isa.specs.declared.Decoded.the-variants.{Built, NotBuilt}
 use Rattle.isa.specs.declared.form.Form.{Form}
 use Rattle.isa.specs.Table.{formOf, instructions}
-use Rattle.isa.specs.Words.{wordOf, opcodeIn, sourceIn, destinationIn, built, among, instructionAt, decodedAt, encodeOf, decodeOf}
+use Rattle.isa.specs.Words.{wordOf, opcodeIn, sourceIn, destinationIn, oneOf, unbuiltOpcodes, built, among, instructionAt, decodedAt, encodeOf, decodeOf}
 use Rattle.isa.specs.RoundTrip.{WellFormed, isBuilt, builtWord, Decodes, Encodes}
 use Rattle.isa.proofs.Each.{each}
 
@@ -52,20 +52,40 @@ fields op s d ho hs hd =
     let c : (op % 64 * 1024 + s % 32 * 32 + d % 32) % 32 ≡ d = omega arith in
     rw (a, b, c)
 
--- an instruction of the list that no opcode of it is, told as a match's default tells it
-abbrev NoneOf : Type 0 → ℕ → List Instr → Type 0
+-- an opcode that no instruction of a list has, told as a match's default tells it
+abbrev pub NoneOf : Type 0 → ℕ → List Instr → Type 0
 NoneOf known op [] = known
 NoneOf known op (i ∷ is) = NoneOf (known × (op ≡ opcodeIn (formOf i) → ⊥)) op is
 
-none-of : (known : Type 0) (op : ℕ) (is : List Instr) → NoneOf known op is → known × (among op is ≡ Nop)
-none-of known op [] h = (h, refl)
+abbrev hasRow : ℕ → List Instr → Bool
+hasRow op [] = false
+hasRow op (i ∷ is) = eqb (opcodeIn (formOf i)) op || hasRow op is
+
+none-of : (known : Type 0) (op : ℕ) (is : List Instr) → NoneOf known op is → known × (among op is ≡ Nop) × (hasRow op is ≡ false)
+none-of known op [] h = (h, refl, refl)
 none-of known op (i ∷ is) h =
     let rest = none-of (known × (op ≡ opcodeIn (formOf i) → ⊥)) op is h in
-    (rest .0 .0, rw (ne-eqb (opcodeIn (formOf i)) op (λ e. rest .0 .1 (sym e))) (rest .1))
+    let other = ne-eqb (opcodeIn (formOf i)) op (λ e. rest .0 .1 (sym e)) in
+    (rest .0 .0, rw other (rest .1), rw other (rest .2))
 
 pub without-row : (op s d : ℕ) → NoneOf Unit op (instructions s d) → instructionAt op s d ≡ Nop
 unfolding instructionAt
 without-row op s d h = none-of Unit op (instructions s d) h .1
+
+-- every opcode has a row or is not built
+rows-or-not : (s d op : ℕ) → op < 64 → hasRow op (instructions s d) || oneOf op unbuiltOpcodes ≡ true
+rows-or-not s d =
+    each (λ op. hasRow op (instructions s d) || oneOf op unbuiltOpcodes) (λ op. true) 64 refl
+
+pub no-row : (op s d : ℕ) → NoneOf Unit op (instructions s d) → decodedAt op s d ≡ NotBuilt
+unfolding decodedAt
+no-row op s d h = go (ltb op 64) refl
+  where
+    go : (t : Bool) → ltb op 64 ≡ t → decodedAt op s d ≡ NotBuilt
+    go true e =
+        let not-built : oneOf op unbuiltOpcodes ≡ true = rw (none-of Unit op (instructions s d) h .2) at (rows-or-not s d op (ltb-true op 64 e)) in
+        rw (e, not-built)
+    go false e = rw e
 
 -- with an opcode that is known to be k
 pub at : {op k : ℕ} (s d : ℕ) → op ≡ k → instructionAt k s d ≡ instructionAt op s d

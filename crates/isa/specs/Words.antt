@@ -2,7 +2,7 @@
 use Prim.Native.Nat.{ℕ, _+_, _*_, _/_, _%_}
 use mathlib.Core.Bool.{Bool, true, false, not, cond, _&&_, _||_}
 use mathlib.Core.List.{List, [], _∷_}
-use lib.Dec.{eqb}
+use lib.Dec.{eqb, ltb}
 use Rattle.isa.specs.declared.Instr.{Instr}
 use Rattle.isa.specs.declared.Instr.the-variants.{Nop}
 use Rattle.isa.specs.declared.Decoded.{Decoded}
@@ -50,10 +50,11 @@ unbuiltOpcodes = 39 ∷ 40 ∷ 42 ∷ 45 ∷ 46 ∷ 48 ∷ 54 ∷ 63 ∷ []
 abbrev pub sourcelessOpcodes : List ℕ
 sourcelessOpcodes = 8 ∷ 12 ∷ 19 ∷ 22 ∷ 32 ∷ 33 ∷ 38 ∷ 51 ∷ 62 ∷ []
 
+-- Whether an opcode, of six bits, is built with fields that are zero or not:
 -- "and all ten bits for 57; else the word is not built (ruled)."
 abbrev pub built : ℕ → Bool → Bool → Bool
 built op noSource noDestination =
-    not (oneOf op unbuiltOpcodes) && (not (oneOf op sourcelessOpcodes) || noSource) && (not (eqb op 57) || (noSource && noDestination))
+    ltb op 64 && not (oneOf op unbuiltOpcodes) && (not (oneOf op sourcelessOpcodes) || noSource) && (not (eqb op 57) || (noSource && noDestination))
 
 -- The instruction of a list that has the opcode; a NOP where none has, as at no built word.
 abbrev pub among : ℕ → List Instr → Instr
