@@ -10,70 +10,70 @@ use crate::form::Form;
 
 // How many of its two fields are operands of each opcode; 3 for an opcode that is not built.
 const OPERANDS: [u8; 64] = [
-    2,
-    2,
-    2,
-    2,
-    2,
-    2,
-    2,
-    2,
-    1,
-    2,
-    2,
-    2,
-    1,
-    2,
-    2,
-    2,
-    2,
-    2,
-    2,
-    1,
-    2,
-    2,
-    1,
-    2,
-    2,
-    2,
-    2,
-    2,
-    2,
-    2,
-    2,
-    2,
-    1,
-    1,
-    2,
-    2,
-    2,
-    2,
-    1,
-    3,
-    3,
-    2,
-    3,
-    2,
-    2,
-    3,
-    3,
-    2,
-    3,
-    2,
-    2,
-    1,
-    2,
-    2,
-    3,
-    2,
-    2,
-    0,
-    2,
-    2,
-    2,
-    2,
-    1,
-    3,
+    2, // 0 ADD
+    2, // 1 ADDC
+    2, // 2 ADDQ
+    2, // 3 ADDQT
+    2, // 4 SUB
+    2, // 5 SUBC
+    2, // 6 SUBQ
+    2, // 7 SUBQT
+    1, // 8 NEG
+    2, // 9 AND
+    2, // 10 OR
+    2, // 11 XOR
+    1, // 12 NOT
+    2, // 13 BTST
+    2, // 14 BSET
+    2, // 15 BCLR
+    2, // 16 MULT
+    2, // 17 IMULT
+    2, // 18 IMULTN
+    1, // 19 RESMAC
+    2, // 20 IMACN
+    2, // 21 DIV
+    1, // 22 ABS
+    2, // 23 SH
+    2, // 24 SHLQ
+    2, // 25 SHRQ
+    2, // 26 SHA
+    2, // 27 SHARQ
+    2, // 28 ROR
+    2, // 29 RORQ
+    2, // 30 CMP
+    2, // 31 CMPQ
+    1, // 32 SAT8
+    1, // 33 SAT16
+    2, // 34 MOVE
+    2, // 35 MOVEQ
+    2, // 36 MOVETA
+    2, // 37 MOVEFA
+    1, // 38 MOVEI
+    3, // 39 not built
+    3, // 40 not built
+    2, // 41 LOAD
+    3, // 42 not built
+    2, // 43 LOAD (R14+n)
+    2, // 44 LOAD (R15+n)
+    3, // 45 not built
+    3, // 46 not built
+    2, // 47 STORE
+    3, // 48 not built
+    2, // 49 STORE (R14+n)
+    2, // 50 STORE (R15+n)
+    1, // 51 MOVE PC
+    2, // 52 JUMP
+    2, // 53 JR
+    3, // 54 not built
+    2, // 55 MTOI
+    2, // 56 NORMI
+    0, // 57 NOP
+    2, // 58 LOAD (R14+Rn)
+    2, // 59 LOAD (R15+Rn)
+    2, // 60 STORE (R14+Rn)
+    2, // 61 STORE (R15+Rn)
+    1, // 62 SAT24
+    3, // 63 not built
 ];
 
 // Whether the three fields are a built word's: those that are no operands must be zero.

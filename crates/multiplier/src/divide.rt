@@ -13,9 +13,11 @@ fn divide(n: u64, s: u32) -> Divided
     requires { ⌜ 0 < s ⌝ }
     ensures { λ r. ⌜ r ≡ divideOf n s ⌝ }
 {
+    let quotient = n / s as u64;
+    let remainder = n % s as u64;
     Divided {
-        quotient: (n / s as u64 % 4294967296) as u32,
-        remainder: (n % s as u64) as u32,
+        quotient: (quotient % 4294967296) as u32,
+        remainder: remainder as u32,
     }
 }
 

@@ -81,16 +81,17 @@ pub fn sha(d: u32, s: u32) -> Computed
 pub fn rotate(d: u32, k: u32) -> Computed
     ensures { λ r. ⌜ r ≡ rotateOf d k ⌝ }
 {
+    let top = d / 2147483648;
     let n = k % 32;
     if n == 0 {
         Computed {
             value: d,
-            carry: d / 2147483648,
+            carry: top,
         }
     } else {
         Computed {
             value: d >> n | d << (32 - n),
-            carry: d / 2147483648,
+            carry: top,
         }
     }
 }
