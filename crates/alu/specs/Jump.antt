@@ -23,5 +23,5 @@ takenOf bits f =
     (bothOf (metOf (eqb (bits / 4 % 2) 1) (not (chosenOf bits f))) (metOf (eqb (bits / 8 % 2) 1) (chosenOf bits f)))
 
 -- "JR: target = own address + 2 + 2 × signed field."
-abbrev pub targetOf : ℕ → ℤ → ℕ
-targetOf pc offset = (pc + 2 + 2 * unsignedOf offset) % 2 ^ 32
+abbrev pub jrTargetOf : ℕ → ℤ → ℕ
+jrTargetOf pc offset = (pc + 2 + 2 * unsignedOf offset) % 2 ^ 32

@@ -1,7 +1,7 @@
 // A jump's condition, and the target of a JR.
 ghost use mathlib.Core.Path.{_≡_};
 ghost use mathlib.Core.Bool.{cond, false};
-ghost use Rattle.alu.specs.Jump.{metOf, takenOf, targetOf};
+ghost use Rattle.alu.specs.Jump.{metOf, takenOf, jrTargetOf};
 use values::Flags;
 use values::signed::unsigned;
 
@@ -37,8 +37,8 @@ pub fn taken(bits: u32, f: Flags) -> bool
 }
 
 // The target of a JR at pc.
-pub fn target(pc: u32, offset: i32) -> u32
-    ensures { λ r. ⌜ r ≡ targetOf pc offset ⌝ }
+pub fn jr_target(pc: u32, offset: i32) -> u32
+    ensures { λ r. ⌜ r ≡ jrTargetOf pc offset ⌝ }
 {
     let words = unsigned(offset) as u64;
     ((pc as u64 + 2 + 2 * words) % 4294967296) as u32

@@ -11,7 +11,7 @@ use Rattle.values.specs.declared.Computed.{Computed}
 use Rattle.values.specs.declared.Flags.{Flags}
 use Rattle.alu.specs.Add.{addOf, addcOf, subOf, subcOf, negOf, absOf, cmpOf, cmpqOf}
 use Rattle.alu.specs.Logic.{andOf, orOf, xorOf, notOf, btstOf, bsetOf, bclrOf}
-use Rattle.alu.specs.Jump.{targetOf}
+use Rattle.alu.specs.Jump.{jrTargetOf}
 use Rattle.multiplier.specs.Multiply.{multOf, imultOf, imacnOf}
 use Rattle.multiplier.specs.Divide.{divOf}
 use Rattle.shifter.specs.Shift.{leftOf, rightOf, rightSignedOf, shOf, shaOf, rotateOf}
@@ -73,7 +73,7 @@ effectOf (StoreR14n q d) x = E.Store 14 (4 * quickOf q) (x .d)
 effectOf (StoreR15n q d) x = E.Store 15 (4 * quickOf q) (x .d)
 effectOf (MovePc d) x = Counter d
 effectOf (Jump s c) x = E.Jump c (x .s)
-effectOf (Jr n c) x = E.Jump c (targetOf (x .pc) (signedFieldOf n))
+effectOf (Jr n c) x = E.Jump c (jrTargetOf (x .pc) (signedFieldOf n))
 effectOf (Mtoi s d) x = Write d (mtoiOf (x .s) (x .c))
 effectOf (Normi s d) x = Write d (normiOf (x .s) (x .c))
 effectOf Nop x = Nothing

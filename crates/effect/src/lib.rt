@@ -14,7 +14,7 @@ use alu::add::cmpq;
 use alu::add::neg;
 use alu::add::sub;
 use alu::add::subc;
-use alu::jump::target;
+use alu::jump::jr_target;
 use alu::logic::and;
 use alu::logic::bclr;
 use alu::logic::bset;
@@ -216,7 +216,7 @@ pub fn effect_at(op: u32, s: u32, d: u32, x: Operands) -> Effect
             Effect::NotBuilt
         },
         52 => Effect::Jump(d, x.s),
-        53 => Effect::Jump(d, target(x.pc, signed_field(s))),
+        53 => Effect::Jump(d, jr_target(x.pc, signed_field(s))),
         55 => Effect::Write(d, mtoi(x.s, x.c)),
         56 => Effect::Write(d, normi(x.s, x.c)),
         57 => nop(s, d),

@@ -11,7 +11,7 @@ pub enum Form {
 }
 
 impl Instr {
-    pub fn form(self) -> Form
+    pub(crate) fn form(self) -> Form
         ensures { λ r. ⌜ r ≡ formOf self ⌝ }
     {
         match self {

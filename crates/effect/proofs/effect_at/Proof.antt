@@ -6,7 +6,7 @@ use mir.Syntax.{w32}
 use mir.Facts.{toZ-ofZ}
 use Rattle.isa.specs.Words.{instructionAt, decodedAt}
 use Rattle.alu.specs.Add.{addOf, subOf, cmpqOf}
-use Rattle.alu.specs.Jump.{targetOf}
+use Rattle.alu.specs.Jump.{jrTargetOf}
 use Rattle.shifter.specs.Shift.{leftOf, rightOf, rightSignedOf, rotateOf}
 use Rattle.effect.specs.declared.Effect.the-variants as E
 use Rattle.effect.specs.declared.Effect.the-variants.{Write, Keep, Divide, Product, Accumulate}
@@ -126,7 +126,7 @@ effect-at-spec =
     (λ c. let a = c .before .before .args in at-zero (a .s) (a .d) (a .x) (c .before .match .keys46) (c .if8 .taken))
     (λ c. let a = c .before .before .args in not-zero (a .s) (a .d) (a .x) (c .before .match .keys46) (c .if8 .left) refl)
     (λ c. let a = c .before .args in at (a .s) (a .d) (a .x) (c .match .keys47))
-    (λ c. let a = c .before .before .before .args in ap (E.Jump (a .d)) (c .target .ensures ∙ ap (targetOf (a .x .pc)) (toZ-ofZ {w = w32} {z = c .before .signed-field2 .result} (record { sfits = c .before .signed-field2 .ok }) ∙ c .before .signed-field2 .ensures)) ∙ at (a .s) (a .d) (a .x) (c .before .before .match .keys48))
+    (λ c. let a = c .before .before .before .args in ap (E.Jump (a .d)) (c .jr-target .ensures ∙ ap (jrTargetOf (a .x .pc)) (toZ-ofZ {w = w32} {z = c .before .signed-field2 .result} (record { sfits = c .before .signed-field2 .ok }) ∙ c .before .signed-field2 .ensures)) ∙ at (a .s) (a .d) (a .x) (c .before .before .match .keys48))
     (λ c. let a = c .before .before .args in ap (Write (a .d)) (c .mtoi .ensures) ∙ at (a .s) (a .d) (a .x) (c .before .match .keys49))
     (λ c. let a = c .before .before .args in ap (Write (a .d)) (c .normi .ensures) ∙ at (a .s) (a .d) (a .x) (c .before .match .keys50))
     (λ c. let a = c .before .before .args in c .nop .ensures ∙ nop-at (a .s) (a .d) (a .x) ∙ at (a .s) (a .d) (a .x) (c .before .match .keys51))
