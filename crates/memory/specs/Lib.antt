@@ -1,0 +1,2 @@
+pub mod Processor
+pub mod Memory
