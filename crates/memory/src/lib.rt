@@ -7,7 +7,7 @@ ghost use Rattle.memory.specs.Memory.{longAt, putLong, fetchOf, register
 
 // What a fetch gives: the word, or the refusal.
 pub enum Fetched {
-    Word(u32),
+    Word(u16),
     Outside,
 }
 
@@ -39,7 +39,7 @@ pub fn fetch(ram: &[u8], pc: u32) -> Fetched
     }
     let at = (pc - 0xF03000) as usize;
     if at + 1 < ram.len() {
-        Fetched::Word(wide(ram[at]) * 256 + wide(ram[at + 1]))
+        Fetched::Word((wide(ram[at]) * 256 + wide(ram[at + 1])) as u16)
     } else {
         Fetched::Outside
     }

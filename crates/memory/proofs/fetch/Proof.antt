@@ -34,5 +34,6 @@ fetch-spec =
     (λ c. search needs)
     (λ c κs. search needs)
     (λ c. search needs)
+    (λ c. search needs)
     returns-3
     returns-4)

@@ -1,0 +1,4 @@
+pub mod Answers
+pub mod State
+pub mod Step
+pub mod Run
