@@ -6,8 +6,8 @@ use mathlib.Core.List.{List}
 use Prim.Native.Nat.{ℕ, zero, suc, _+_, _-_, _<_, _≤_}
 use native.Mathlib.Omega.{arith}
 use Rattle.memory.specs.Processor.{Processor}
-use Rattle.machine.specs.Answers.{completedOf}
-use Rattle.machine.specs.Step.{View, Outcome, advanceOf}
+use Rattle.state.specs.Answers.{completedOf}
+use Rattle.cpu.specs.Step.{View, Outcome, advanceOf}
 use Rattle.machine.specs.Run.{Runs, runsOf, restOf, cut}
 
 module _ (P : Processor) (b n : ℕ) (ram : List ℕ) (v : View) where

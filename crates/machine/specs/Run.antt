@@ -5,16 +5,16 @@ use mathlib.Core.List.{List}
 use lib.Dec.{eqb, ltb}
 use lib.ListN.{length}
 use Rattle.memory.specs.Processor.{Processor}
-use Rattle.machine.specs.declared.parts.Core.{Core}
-use Rattle.machine.specs.declared.parts.Activity.{Activity}
-use Rattle.machine.specs.declared.parts.Activity.the-variants as A
-use Rattle.machine.specs.declared.answers.Answer.{Answer}
-use Rattle.machine.specs.declared.answers.Answer.the-variants.{Running, Stopped, RamLength, BudgetLimit}
-use Rattle.machine.specs.declared.parts.State.{State}
-use Rattle.machine.specs.declared.bounded.Ran.{Ran}
-use Rattle.machine.specs.declared.bounded.Gone.{Gone}
-use Rattle.machine.specs.Answers.{completedOf}
-use Rattle.machine.specs.Step.{View, viewFrom, Outcome, advanceOf}
+use Rattle.state.specs.declared.Core.{Core}
+use Rattle.state.specs.declared.Activity.{Activity}
+use Rattle.state.specs.declared.Activity.the-variants as A
+use Rattle.state.specs.declared.answers.Answer.{Answer}
+use Rattle.state.specs.declared.answers.Answer.the-variants.{Running, Stopped, RamLength, BudgetLimit}
+use Rattle.machine.specs.declared.State.{State}
+use Rattle.machine.specs.declared.Ran.{Ran}
+use Rattle.machine.specs.declared.Gone.{Gone}
+use Rattle.state.specs.Answers.{completedOf}
+use Rattle.cpu.specs.Step.{View, viewFrom, Outcome, advanceOf}
 
 -- "The budget is 0 to 1,000,000."
 abbrev pub budgetLimit : ℕ

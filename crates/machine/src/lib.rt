@@ -1,15 +1,121 @@
-// The machine: its state, by value, one step and a run.
-mod answers;
-mod apply;
-mod bounded;
-mod execute;
-mod parts;
-mod registers;
+// The machine: its whole state, by value, a step, and a run of instructions one after another up to a budget.
+ghost use mathlib.Core.Path.{_≡_};
+ghost use Rattle.memory.specs.Processor.{gpu};
+ghost use Rattle.cpu.specs.Step.{viewFrom};
+ghost use Rattle.machine.specs.Run.{restOf, endOf, goneWith, runsOf, ranWith, runOf, stepOf};
+use cpu::advance;
+use cpu::registers::settle;
+use state::Activity;
+use state::Core;
+use state::answers::Answer;
 
-pub use answers::Answer;
-pub use bounded::Ran;
-pub use bounded::run;
-pub use parts::Activity;
-pub use parts::Core;
-pub use parts::Pending;
-pub use parts::State;
+// The whole state: two banks of registers, and the rest.
+pub struct State {
+    pub bank0: [u32; 32],
+    pub bank1: [u32; 32],
+    pub core: Core,
+}
+
+// What a run gives.
+pub struct Ran {
+    pub answer: Answer,
+    pub steps: u32,
+    pub state: State,
+}
+
+// What the loop gives: the registers stand in the two banks that it was lent.
+struct Gone {
+    answer: Answer,
+    steps: u32,
+    core: Core,
+}
+
+// The answer once the budget is spent.
+fn rest(a: Activity) -> Answer
+    ensures { λ r. ⌜ r ≡ restOf a ⌝ }
+{
+    match a {
+        Activity::Running => Answer::Running,
+        Activity::Stopped => Answer::Stopped,
+    }
+}
+
+fn ended(k: Core, n: u32) -> Gone
+    ensures { λ r. ⌜ r ≡ endOf k n ⌝ }
+{
+    let activity = k.activity;
+    Gone {
+        answer: rest(activity),
+        steps: n,
+        core: k,
+    }
+}
+
+// Instructions one after another, from the active bank and the other one; these change places only by a store to the flag register.
+fn go(a: &mut [u32; 32], o: &mut [u32; 32], from: Core, ram: &mut [u8], budget: u32) -> Gone
+    ensures { λ r. ⌜ goneWith r (now (a .exit)) (now (o .exit)) (now (ram .exit)) ≡ runsOf gpu budget 0 (now (ram .entry)) (viewFrom (now (a .entry)) (now (o .entry)) from) ⌝ }
+{
+    let mut k = from;
+    let mut n: u32 = 0;
+    while n < budget {
+        let m = advance(a, o, k, ram);
+        let after = m.core;
+        let answer = m.answer;
+        if !answer.completed() {
+            return Gone {
+                answer: answer,
+                steps: n,
+                core: after,
+            };
+        }
+        k = after;
+        n += 1;
+    }
+    ended(k, n)
+}
+
+// A run of at most budget instructions. A refused run changes nothing.
+pub fn run(ram: &mut [u8], state: State, budget: u64) -> Ran
+    ensures { λ r. ⌜ ranWith r (now (ram .exit)) ≡ runOf gpu (now (ram .entry)) state budget ⌝ }
+{
+    if ram.len() != 4096 {
+        return Ran {
+            answer: Answer::RamLength,
+            steps: 0,
+            state: state,
+        };
+    }
+    if 1000000 < budget {
+        return Ran {
+            answer: Answer::BudgetLimit,
+            steps: 0,
+            state: state,
+        };
+    }
+    let mut a = state.bank0;
+    let mut b = state.bank1;
+    let k = state.core;
+    settle(&mut a, &mut b, k.bank % 2 == 0);
+    let g = go(&mut a, &mut b, k, ram, budget as u32);
+    let after = g.core;
+    let answer = g.answer;
+    settle(&mut a, &mut b, after.bank % 2 == 0);
+    Ran {
+        answer: answer,
+        steps: g.steps,
+        state: State {
+            bank0: a,
+            bank1: b,
+            core: after,
+        },
+    }
+}
+
+impl State {
+    // One step; it answers as a run of budget 1.
+    pub fn step(self, ram: &mut [u8]) -> Ran
+        ensures { λ r. ⌜ ranWith r (now (ram .exit)) ≡ stepOf gpu (now (ram .entry)) self ⌝ }
+    {
+        run(ram, self, 1)
+    }
+}

@@ -1,0 +1,4 @@
+pub mod Digits
+pub mod Example
+pub mod Lines
+pub mod Writing

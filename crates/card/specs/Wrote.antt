@@ -1,0 +1,11 @@
+-- What a function that writes bytes at a place promises.
+use Prim.Native.Nat.{ℕ, _+_}
+use mathlib.Core.Path.{_≡_}
+use mathlib.Core.List.{List}
+use lib.ListN.{length}
+use lib.Seq.{sets}
+
+-- The list `after` is `before` with the bytes stored from the place on, and next is the place behind them.
+pub record Wrote (before : List ℕ) (at : ℕ) (bytes : List ℕ) (after : List ℕ) (next : ℕ) : Type 0 where
+  pub stored : after ≡ sets before at bytes
+  pub behind : next ≡ at + length bytes

@@ -1,0 +1,184 @@
+-- One instruction: what it answers, and the state and RAM after it.
+use Prim.Native.Nat.{ℕ, _+_, _*_, _/_, _%_, _^_}
+use mathlib.Core.Bool.{Bool, cond}
+use mathlib.Core.List.{List}
+use lib.Dec.{eqb}
+use lib.ListN.{length, getD, set}
+use Rattle.alu.specs.Jump.{takenOf}
+use Rattle.isa.specs.Words.{decodeOf}
+use Rattle.values.specs.Results.{flagsOf}
+use Rattle.values.specs.declared.Computed.{Computed}
+use Rattle.multiplier.specs.declared.divide.Divided.{Divided}
+use Rattle.effect.specs.Effects.{effectIn}
+use Rattle.effect.specs.declared.Effect.{Effect}
+use Rattle.effect.specs.declared.Effect.the-variants as E
+use Rattle.effect.specs.declared.Operands.{Operands}
+use Rattle.memory.specs.Processor.{Processor}
+use Rattle.memory.specs.Memory.{longAt, putLong, fetchOf, placeOf}
+use Rattle.memory.specs.declared.Fetched.{Fetched}
+use Rattle.memory.specs.declared.Fetched.the-variants as F
+use Rattle.memory.specs.declared.Place.{Place}
+use Rattle.memory.specs.declared.Place.the-variants as M
+use Rattle.state.specs.declared.Core.{Core}
+use Rattle.state.specs.declared.Pending.{Pending}
+use Rattle.state.specs.declared.Pending.the-variants.{None, At}
+use Rattle.state.specs.declared.Activity.{Activity}
+use Rattle.state.specs.declared.Activity.the-variants as A
+use Rattle.state.specs.declared.answers.Answer.{Answer}
+use Rattle.state.specs.declared.answers.Answer.the-variants.{Running, Stopped, NotBuilt, BadCounter, Misaligned, Unmapped, JumpPending, RamLength}
+use Rattle.cpu.specs.declared.apply.Moved.{Moved}
+use Rattle.cpu.specs.declared.apply.Loaded.{Loaded}
+use Rattle.cpu.specs.declared.apply.Loaded.the-variants as L
+use Rattle.cpu.specs.declared.apply.Immediate.{Immediate}
+use Rattle.cpu.specs.declared.apply.Immediate.the-variants as I
+use Rattle.state.specs.State.{movedOf, skippedOf, withFlags, withRemainder, withAccumulator, withMode, withControl, withFlagRegister, flagRegisterOf, bankIn}
+
+-- The state with the active bank told first.
+pub record View : Type 0 where
+  pub active : List ℕ
+  pub other : List ℕ
+  pub core : Core
+
+abbrev pub viewFrom : List ℕ → List ℕ → Core → View
+viewFrom a o k = record { active = a; other = o; core = k }
+
+-- What comes of an instruction.
+pub record Outcome : Type 0 where
+  pub answer : Answer
+  pub view : View
+  pub ram : List ℕ
+
+abbrev pub outcome : Moved → List ℕ → List ℕ → List ℕ → Outcome
+outcome m a o ram = record { answer = m .answer; view = viewFrom a o (m .core); ram = ram }
+
+-- The registers and RAM as they were.
+abbrev pub unwritten : List ℕ → View → Moved → Outcome
+unwritten ram v m = outcome m (v .active) (v .other) ram
+
+-- A fault: "state and RAM […] before the faulty step".
+abbrev pub stayOf : Answer → Core → Moved
+stayOf answer k = record { answer = answer; core = k }
+
+-- A completed instruction with nothing pending after it.
+abbrev pub doneOf : Core → Moved
+doneOf k = stayOf Running (movedOf k None)
+
+-- Register d of the active bank becomes n, and the rest k moves on.
+abbrev pub writes : List ℕ → View → ℕ → ℕ → Core → Outcome
+writes ram v d n k = outcome (doneOf k) (set (v .active) (d % 32) n) (v .other) ram
+
+-- "A taken jump makes the target pending"; 15 is "JR, JUMP, MOVEI or MOVE PC while a jump is pending".
+abbrev pub jumpOf : Core → Pending → ℕ → ℕ → Moved
+jumpOf k (At t) condition target = stayOf JumpPending k
+jumpOf k None condition target =
+    cond (takenOf condition (k .flags)) (stayOf Running (movedOf k (At target))) (doneOf k)
+
+-- What an instruction that writes one register of the active bank leaves.
+pub record Written : Type 0 where
+  pub moved : Moved
+  pub active : List ℕ
+
+abbrev pub written : Moved → List ℕ → Written
+written m a = record { moved = m; active = a }
+
+abbrev pub inActive : Written → View → List ℕ → Outcome
+inActive w v ram = outcome (w .moved) (w .active) (v .other) ram
+
+-- "MOVEI is followed by the low word, then the high word."
+abbrev pub highOf : ℕ → Fetched → Immediate
+highOf low (F.Word high) = I.Long (high * 2 ^ 16 + low)
+highOf low F.Outside = I.Outside
+
+abbrev pub lowOf : Fetched → Fetched → Immediate
+lowOf (F.Word low) second = highOf low second
+lowOf F.Outside second = I.Outside
+
+unfoldable pub immediateOf : Processor → List ℕ → ℕ → Immediate
+immediateOf P ram pc = lowOf (fetchOf P ram ((pc + 2) % 2 ^ 32)) (fetchOf P ram ((pc + 4) % 2 ^ 32))
+
+abbrev pub immediateWritten : List ℕ → Core → ℕ → Immediate → Written
+immediateWritten a k d (I.Long n) = written (stayOf Running (skippedOf k)) (set a (d % 32) n)
+immediateWritten a k d I.Outside = written (stayOf BadCounter k) a
+
+abbrev pub moveImmediateOf : Processor → List ℕ → List ℕ → Core → Pending → ℕ → Written
+moveImmediateOf P ram a k (At t) d = written (stayOf JumpPending k) a
+moveImmediateOf P ram a k None d = immediateWritten a k d (immediateOf P ram (k .pc))
+
+-- "MOVE PC gives its own address (ruled)."
+abbrev pub moveCounterOf : List ℕ → Core → Pending → ℕ → Written
+moveCounterOf a k (At t) d = written (stayOf JumpPending k) a
+moveCounterOf a k None d = written (doneOf k) (set a (d % 32) (k .pc))
+
+-- What a LOAD finds: "F02114h reads 2001h", "F0211Ch reads the remainder".
+abbrev pub loadOf : Core → List ℕ → Place → Loaded
+loadOf k ram (M.Ram at) = L.Long (longAt ram at)
+loadOf k ram M.Flags = L.Long (flagRegisterOf k)
+loadOf k ram M.Control = L.Long 0x2001
+loadOf k ram M.Divide = L.Long (k .remainder)
+loadOf k ram M.Misaligned = L.Refused Misaligned
+loadOf k ram M.Unmapped = L.Refused Unmapped
+
+abbrev pub moveLoadedOf : List ℕ → Core → ℕ → Loaded → Written
+moveLoadedOf a k d (L.Long n) = written (doneOf k) (set a (d % 32) n)
+moveLoadedOf a k d (L.Refused answer) = written (stayOf answer k) a
+
+-- Whether a write to the flag register leaves the active bank.
+abbrev pub sameBank : Core → ℕ → Bool
+sameBank k n = eqb (k .bank % 2) (bankIn n)
+
+-- "After any of these writes the completed step still moves the counter."
+abbrev pub storeOf : List ℕ → View → ℕ → Place → Outcome
+storeOf ram v n (M.Ram at) = unwritten (putLong ram at n) v (doneOf (v .core))
+storeOf ram v n M.Flags =
+    outcome (doneOf (withFlagRegister (v .core) n)) (cond (sameBank (v .core) n) (v .active) (v .other)) (cond (sameBank (v .core) n) (v .other) (v .active)) ram
+storeOf ram v n M.Control = unwritten ram v (doneOf (withControl (v .core) n))
+storeOf ram v n M.Divide = unwritten ram v (doneOf (withMode (v .core) n))
+storeOf ram v n M.Misaligned = unwritten ram v (stayOf Misaligned (v .core))
+storeOf ram v n M.Unmapped = unwritten ram v (stayOf Unmapped (v .core))
+
+-- "address in a register, or R14 or R15 plus 4 × quick n or plus a register, modulo 2^32"
+abbrev pub addressOf : List ℕ → ℕ → ℕ → ℕ
+addressOf a base offset = (getD a (base % 32) 0 + offset) % 2 ^ 32
+
+unfoldable pub applyOf : Processor → List ℕ → View → Effect → Outcome
+applyOf P ram v E.NotBuilt = unwritten ram v (stayOf NotBuilt (v .core))
+applyOf P ram v E.Nothing = unwritten ram v (doneOf (v .core))
+applyOf P ram v (E.Write d r) = writes ram v d (r .value) (withFlags (v .core) (flagsOf r))
+applyOf P ram v (E.Keep d n) = writes ram v d n (v .core)
+applyOf P ram v (E.Flags f) = unwritten ram v (doneOf (withFlags (v .core) f))
+applyOf P ram v (E.Divide d q) = writes ram v d (q .quotient) (withRemainder (v .core) (q .remainder))
+applyOf P ram v (E.Product r) =
+    unwritten ram v (doneOf (withFlags (withAccumulator (v .core) (r .value)) (flagsOf r)))
+applyOf P ram v (E.Accumulate n) = unwritten ram v (doneOf (withAccumulator (v .core) n))
+applyOf P ram v (E.ToOther d n) = outcome (doneOf (v .core)) (v .active) (set (v .other) (d % 32) n) ram
+applyOf P ram v (E.FromOther s d) = writes ram v d (getD (v .other) (s % 32) 0) (v .core)
+applyOf P ram v (E.Immediate d) =
+    inActive (moveImmediateOf P ram (v .active) (v .core) (v .core .pending) d) v ram
+applyOf P ram v (E.Counter d) = inActive (moveCounterOf (v .active) (v .core) (v .core .pending) d) v ram
+applyOf P ram v (E.Jump condition target) =
+    unwritten ram v (jumpOf (v .core) (v .core .pending) condition target)
+applyOf P ram v (E.Load d base offset) =
+    inActive (moveLoadedOf (v .active) (v .core) d (loadOf (v .core) ram (placeOf P (addressOf (v .active) base offset)))) v ram
+applyOf P ram v (E.Store base offset n) = storeOf ram v n (placeOf P (addressOf (v .active) base offset))
+
+-- What the instruction of the word w reads.
+abbrev pub operandsOf : List ℕ → Core → ℕ → Operands
+operandsOf a k w =
+    record { s = getD a (w / 32 % 32) 0; d = getD a (w % 32) 0; pc = k .pc; z = k .flags .z; n = k .flags .n; c = k .flags .c; acc = k .accumulator; mode = k .mode }
+
+unfoldable pub executeOf : Processor → List ℕ → View → ℕ → Outcome
+executeOf P ram v w = applyOf P ram v (effectIn (decodeOf w) (operandsOf (v .active) (v .core) w))
+
+-- "Fetching gives the word or the refusal, and later work takes only a word."
+abbrev pub fetchedOf : Processor → List ℕ → View → Fetched → Outcome
+fetchedOf P ram v (F.Word w) = executeOf P ram v w
+fetchedOf P ram v F.Outside = unwritten ram v (stayOf BadCounter (v .core))
+
+abbrev pub activeOf : Processor → List ℕ → View → Activity → Outcome
+activeOf P ram v A.Running = fetchedOf P ram v (fetchOf P ram (v .core .pc))
+activeOf P ram v A.Stopped = unwritten ram v (stayOf Stopped (v .core))
+
+-- "For a step: 31, stopped, 12 for the first word, 11, 15, 12 for the rest, 13, 14."
+unfoldable pub advanceOf : Processor → List ℕ → View → Outcome
+advanceOf P ram v =
+    cond (eqb (length ram) (P .size)) (activeOf P ram v (v .core .activity)) (unwritten ram v (stayOf RamLength (v .core)))
