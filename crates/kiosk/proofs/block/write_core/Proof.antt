@@ -1,0 +1,24 @@
+-- `write_core` meets its contract: one long after the other.
+-- Assumes nothing.
+use borrow.Author.Needs.{needs}
+use Rattle.kiosk.specs.Block.{putCore}
+use Rattle.kiosk.proofs.block.write_core.Statement.{statement}
+use Rattle.kiosk.proofs.block.write_core.Tie as tie
+
+returns : tie.Need-returns
+unfolding putCore
+returns c = rw (c .before .before .put-long5 .ensures, c .before .before .before .status .ensures, c .before .before .before .before .before .before .before .put-long4 .ensures, c .before .before .before .before .before .before .before .before .before .before .before .put-long3 .ensures, c .before .before .before .before .before .before .before .before .before .before .before .before .before .before .before .put-long2 .ensures, c .before .before .before .before .before .before .before .before .before .before .before .before .before .before .before .before .target .ensures, c .before .before .before .before .before .before .before .before .before .before .before .before .before .before .before .before .before .before .before .before .put-long .ensures)
+
+pub write-core-spec : {M : Type 1} → statement M
+write-core-spec =
+    tie.close
+    (tie.spec
+    (λ c κs. search needs)
+    (λ c κs. search needs)
+    (λ c κs. search needs)
+    (λ c κs. search needs)
+    (λ c κs. search needs)
+    (λ c κs. search needs)
+    (λ c κs. search needs)
+    (λ c. search needs)
+    returns)

@@ -1,0 +1,66 @@
+-- `gpu_run` meets its contract: the refusals in their order, then the run between reading and writing the block.
+-- Assumes nothing.
+use borrow.Author.Needs.{needs}
+use mathlib.Core.Path.{_∙_, sym}
+use borrow.Author.Tests.{eq-eqb, ne-eqb, lt-ltb, le-ltb, not-true, not-false}
+use Rattle.kiosk.specs.Call.{callOf}
+use Rattle.kiosk.proofs.gpu_run.Statement.{statement}
+use Rattle.kiosk.proofs.gpu_run.Tie as tie
+
+returns : tie.Need-returns
+unfolding callOf
+returns c = rw (ne-eqb _ _ (c .if1 .taken))
+
+returns-2 : tie.Need-returns-2
+unfolding callOf
+returns-2 c = rw (eq-eqb _ _ (c .before .if1 .left), ne-eqb _ _ (c .if2 .taken))
+
+returns-3 : tie.Need-returns-3
+unfolding callOf
+returns-3 c =
+    let v = c .before in
+    let t = v .before .before .before .before .before in
+    rw (eq-eqb _ _ (t .before .if1 .left), eq-eqb _ _ (t .if2 .left), ← v .before .before .before .long-at .ensures, ← v .before .long-at2 .ensures, sym (v .is-valid .ensures) ∙ not-true _ (c .if3 .taken))
+
+returns-4 : tie.Need-returns-4
+unfolding callOf
+returns-4 c =
+    let v = c .before .before in
+    let t = v .before .before .before .before .before in
+    rw (eq-eqb _ _ (t .before .if1 .left), eq-eqb _ _ (t .if2 .left), ← v .before .before .before .long-at .ensures, ← v .before .long-at2 .ensures, sym (v .is-valid .ensures) ∙ not-false _ (c .before .if3 .left), lt-ltb _ _ (c .if4 .taken))
+
+returns-5 : tie.Need-returns-5
+unfolding callOf
+returns-5 c =
+    let b = c .before .before .before .before in
+    let r = b .before .before .before .before .before in
+    let d = r .before .before in
+    let e = d .before .before in
+    let v = e .before .before in
+    let t = v .before .before .before .before .before in
+    rw (eq-eqb _ _ (t .before .if1 .left), eq-eqb _ _ (t .if2 .left), ← v .before .before .before .long-at .ensures, ← v .before .long-at2 .ensures, sym (v .is-valid .ensures) ∙ not-false _ (e .before .if3 .left), le-ltb _ _ (e .if4 .left), ← d .read .ensures, ← r .run .ensures, b .write .ensures, c .before .number .ensures)
+
+pub gpu-run-spec : {M : Type 1} → statement M
+gpu-run-spec =
+    tie.close
+    (tie.spec
+    returns
+    returns-2
+    (λ c κs. search needs)
+    (λ c κs. search needs)
+    (λ c κs. search needs)
+    (λ c. search needs)
+    returns-3
+    (λ c. search needs)
+    returns-4
+    (λ c κs. search needs)
+    (λ c κs. search needs)
+    (λ c κs. search needs)
+    (λ c κs. search needs)
+    (λ c. search needs)
+    (λ c. search needs)
+    (λ c. search needs)
+    (λ c. search needs)
+    (λ c. search needs)
+    (λ c. search needs)
+    returns-5)

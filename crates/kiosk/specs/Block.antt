@@ -1,0 +1,78 @@
+-- The state block: "69 longs, high byte first. Bank 0, bank 1, program counter, pending target, remainder, accumulator, status."
+use Prim.Native.Nat.{ℕ, zero, suc, _+_, _*_, _/_, _%_, _^_}
+use mathlib.Core.Bool.{Bool, true, false, cond}
+use mathlib.Core.List.{List, [], _∷_, _++_}
+use lib.Dec.{eqb}
+use lib.ListN.{getD}
+use Rattle.memory.specs.Memory.{longAt, putLong}
+use Rattle.values.specs.declared.Flags.{Flags}
+use Rattle.state.specs.State.{flagsIn, bankIn, flagRegisterOf}
+use Rattle.state.specs.declared.Core.{Core}
+use Rattle.state.specs.declared.Pending.{Pending}
+use Rattle.state.specs.declared.Pending.the-variants.{None, At}
+use Rattle.state.specs.declared.Activity.{Activity}
+use Rattle.state.specs.declared.Activity.the-variants.{Running, Stopped}
+use Rattle.machine.specs.declared.State.{State}
+
+abbrev pub blockLength : ℕ
+blockLength = 276
+
+-- The first m longs of a block from the byte at on, and the first m numbers of a list put there.
+unfoldable pub longs : List ℕ → ℕ → ℕ → List ℕ
+longs block at zero = []
+longs block at (suc m) = longs block at m ++ (longAt block (at + 4 * m) ∷ [])
+
+unfoldable pub putLongs : List ℕ → ℕ → List ℕ → ℕ → List ℕ
+putLongs block at bank zero = block
+putLongs block at bank (suc m) = putLong (putLongs block at bank m) (at + 4 * m) (getD bank m 0)
+
+-- "Status bits: 0 Z, 1 C, 2 N, 14 bank, 16 running, 17 jump pending, 18 divide mode. Other bits must be zero,
+-- and the target is zero if none is pending."
+abbrev pub validOf : ℕ → ℕ → Bool
+validOf status target =
+    cond (eqb (status / 8 % 2 ^ 11) 0)
+    (cond (eqb (status / 2 ^ 15 % 2) 0)
+    (cond (eqb (status / 2 ^ 19) 0) (cond (eqb (status / 2 ^ 17 % 2) 1) true (eqb target 0)) false)
+    false)
+    false
+
+-- From the block to the state.
+abbrev pub pendingIn : ℕ → ℕ → Pending
+pendingIn status target = cond (eqb (status / 2 ^ 17 % 2) 1) (At target) None
+
+abbrev pub activityIn : ℕ → Activity
+activityIn status = cond (eqb (status / 2 ^ 16 % 2) 1) Running Stopped
+
+abbrev pub coreFrom : ℕ → ℕ → ℕ → ℕ → ℕ → Core
+coreFrom pc target remainder accumulator status =
+    record { bank = bankIn status; flags = flagsIn status; pc = pc; pending = pendingIn status target; remainder = remainder; mode = status / 2 ^ 18 % 2; accumulator = accumulator; activity = activityIn status }
+
+unfoldable pub coreAt : List ℕ → Core
+coreAt block = coreFrom (longAt block 256) (longAt block 260) (longAt block 264) (longAt block 268) (longAt block 272)
+
+abbrev pub stateAt : List ℕ → State
+stateAt block = record { bank0 = longs block 0 32; bank1 = longs block 128 32; core = coreAt block }
+
+-- And back.
+abbrev pub targetOf : Pending → ℕ
+targetOf None = 0
+targetOf (At t) = t
+
+abbrev pub pendingBit : Pending → ℕ
+pendingBit None = 0
+pendingBit (At t) = 1
+
+abbrev pub activityBit : Activity → ℕ
+activityBit Running = 1
+activityBit Stopped = 0
+
+abbrev pub statusOf : Core → ℕ
+statusOf k =
+    flagRegisterOf k + 2 ^ 16 * activityBit (k .activity) + 2 ^ 17 * pendingBit (k .pending) + 2 ^ 18 * (k .mode % 2)
+
+unfoldable pub putCore : List ℕ → Core → List ℕ
+putCore block k =
+    putLong (putLong (putLong (putLong (putLong block 256 (k .pc)) 260 (targetOf (k .pending))) 264 (k .remainder)) 268 (k .accumulator)) 272 (statusOf k)
+
+abbrev pub putState : List ℕ → State → List ℕ
+putState block s = putCore (putLongs (putLongs block 0 (s .bank0) 32) 128 (s .bank1) 32) (s .core)

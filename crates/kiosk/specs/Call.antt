@@ -1,0 +1,36 @@
+-- The call: "The same run is called from the kiosk's C program with RAM, a budget and a state block of 276 bytes."
+use Prim.Native.Nat.{ℕ, _+_, _*_}
+use mathlib.Core.Bool.{cond}
+use mathlib.Core.List.{List}
+use lib.Dec.{eqb, ltb}
+use lib.ListN.{length}
+use Rattle.memory.specs.Processor.{gpu}
+use Rattle.memory.specs.Memory.{longAt}
+use Rattle.state.specs.Answers.{numberOf}
+use Rattle.machine.specs.Run.{Result, runOf, budgetLimit}
+use Rattle.kiosk.specs.Block.{blockLength, validOf, stateAt, putState}
+
+-- The reply, and RAM and the block after the call.
+pub record Call : Type 0 where
+  pub reply : ℕ
+  pub ram : List ℕ
+  pub block : List ℕ
+
+abbrev pub called : ℕ → List ℕ → List ℕ → Call
+called reply ram block = record { reply = reply; ram = ram; block = block }
+
+-- "The 64-bit reply is answer + 256 × steps."
+abbrev pub ranOn : List ℕ → Result → Call
+ranOn block r =
+    called (numberOf (r .ran .answer) + 256 * r .ran .steps) (r .ram) (putState block (r .ran .state))
+
+-- "Order for a run: 31, 35, 34, 32."
+unfoldable pub callOf : List ℕ → List ℕ → ℕ → Call
+callOf ram block budget =
+    cond (eqb (length ram) 4096)
+    (cond (eqb (length block) blockLength)
+    (cond (validOf (longAt block 272) (longAt block 260))
+    (cond (ltb budgetLimit budget) (called 32 ram block) (ranOn block (runOf gpu ram (stateAt block) budget)))
+    (called 34 ram block))
+    (called 35 ram block))
+    (called 31 ram block)

@@ -1,0 +1,31 @@
+// The run as the kiosk's C program calls it: RAM, a state block of 69 longs, high byte first, and a budget.
+ghost use mathlib.Core.Path.{_≡_};
+ghost use Rattle.kiosk.specs.Call.{called, callOf};
+use machine::run;
+use memory::long_at;
+
+mod block;
+
+#[no_mangle]
+pub extern "C" fn gpu_run(ram: &mut [u8], block: &mut [u8], budget: u64) -> u64
+    ensures { λ r. ⌜ called r (now (ram .exit)) (now (block .exit)) ≡ callOf (now (ram .entry)) (now (block .entry)) budget ⌝ }
+{
+    if ram.len() != 4096 {
+        return 31;
+    }
+    if block.len() != 276 {
+        return 35;
+    }
+    if !block::is_valid(long_at(block, 272), long_at(block, 260)) {
+        return 34;
+    }
+    if 1000000 < budget {
+        return 32;
+    }
+    let s = block::read(block);
+    let r = run(ram, s, budget);
+    let after = r.state;
+    let answer = r.answer;
+    block::write(block, after);
+    answer.number() as u64 + 256 * r.steps as u64
+}
