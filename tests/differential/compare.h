@@ -27,8 +27,8 @@ void compare(const struct test_case *t);
 /* The number of cases so far. */
 uint64_t cases_compared(void);
 
-/* Prints how many steps were run and how many cases gave each answer. Ends the program with 1 if an answer never came, if a built opcode was never
-   run whole, or if another was: then the cases would be too weak. */
+/* Prints how many steps were run and how many cases gave each answer. Ends the program with 1 if an answer never came,
+   if a built opcode was never run whole, or if another was: then the cases would be too weak. */
 void report_coverage(void);
 
 #endif

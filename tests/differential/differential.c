@@ -36,8 +36,8 @@ static void compare_operands(void)
     }
 }
 
-/* Every word, in both banks, with and without a pending jump, in both divide modes. The budget goes a little further, to
-   see where a jump lands. */
+/* Every word, in both banks, with and without a pending jump, in both divide modes. The budget goes a little further,
+   to see where a jump lands. */
 static void compare_words(void)
 {
     for (uint32_t i = 0; i < 65536 * 8; i++) {
@@ -100,7 +100,7 @@ static void compare_counters(void)
         0xF02100, 0xF02114, 0x3000,   0x1F03000, 0x80F03000, 0xFFFFFFFA, 0xFFFFFFFC, 0xFFFFFFFE, 0xFFFFFFFF,
     };
     for (uint32_t i = 0; i < COUNT(counters) * 64 * 16; i++) {
-        uint32_t word = i / 64 % 4 == 0 ? word_of(i % 64, random_below(32), random_below(32)) : word_with(i % 64);
+        uint32_t word = i / 64 % 4 == 0 ? word_of(i % 64, 0, 0) + random_below(1024) : word_with(i % 64);
         put_random_state();
         put_counter(counters[i / 1024]);
         put_status(random_status() | (i & 512 ? GPU_STATUS_PENDING : 0));
@@ -154,14 +154,14 @@ static void compare_noise(uint32_t count)
     }
 }
 
-static void compare_loops(uint32_t count, uint64_t budget_limit)
+static void compare_loops(uint32_t count, uint32_t least_budget, uint32_t most_budget)
 {
     for (uint32_t i = 0; i < count; i++) {
         put_random_state();
         put_loop();
         put_counter(GPU_RAM_BASE);
         put_status(random_status() & ~(uint32_t)GPU_STATUS_PENDING);
-        t.budget = budget_limit == GPU_BUDGET_LIMIT ? budget_limit - random_below(2) : random_below((uint32_t)budget_limit);
+        t.budget = least_budget + random_below(most_budget - least_budget + 1);
         compare(&t);
     }
 }
@@ -192,7 +192,8 @@ static void compare_refusals(void)
     for (uint32_t i = 0; i < cases * 16; i++) {
         put_random_state();
         if (random_below(2)) {
-            gpu_put_long(t.block, GPU_BLOCK_STATUS, random_status() | (uint32_t)1 << random_below(32));
+            uint32_t status = random_status();
+            gpu_put_long(t.block, GPU_BLOCK_STATUS, status | (uint32_t)1 << random_below(32));
         }
         t.ram_len = ram_lengths[i % COUNT(ram_lengths)];
         t.block_len = block_lengths[i / COUNT(ram_lengths) % COUNT(block_lengths)];
@@ -251,8 +252,8 @@ int main(int argc, char **argv)
     for (uint64_t round = 0; round < rounds; round++) {
         KIND("random programs", compare_programs(600000));
         KIND("random bytes", compare_noise(100000));
-        KIND("loops", compare_loops(10000, 4000));
-        KIND("loops of a million steps", compare_loops(100, GPU_BUDGET_LIMIT));
+        KIND("loops", compare_loops(10000, 0, 4000));
+        KIND("loops of a million steps", compare_loops(100, GPU_BUDGET_LIMIT - 1, GPU_BUDGET_LIMIT));
     }
 
     report_coverage();

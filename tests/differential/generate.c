@@ -28,7 +28,7 @@ const uint32_t addresses[ADDRESSES] = {
 static const uint8_t not_built[] = {39, 40, 42, 45, 46, 48, 54, 63};
 static const uint8_t source_is_zero[] = {8, 12, 19, 22, 32, 33, 38, 51, 57, 62};
 
-enum { NOP = 57, MOVEI = 38, JUMP = 52, JR = 53, MOVEQ = 35 };
+enum { MOVEQ = 35, MOVEI = 38, MOVE_PC = 51, JUMP = 52, JR = 53, NOP = 57 };
 
 static bool is_one_of(uint32_t number, const uint8_t *numbers, size_t count)
 {
@@ -204,6 +204,17 @@ static uint32_t calm_word(void)
     return word_of(opcode, source, free_register());
 }
 
+/* MOVE PC may not follow a taken jump. */
+static uint32_t calm_word_after_jump(void)
+{
+    uint32_t word;
+    do {
+        word = calm_word();
+    } while (word / 1024 == MOVE_PC);
+    return word;
+}
+
+/* Five NOPs stand before the JUMP, so that a JR near the end does not skip it. */
 void put_loop(void)
 {
     uint32_t length = 2 + random_below(60);
@@ -211,8 +222,8 @@ void put_loop(void)
     put_kept_registers();
     while (at < 2 * length) {
         if (random_below(16) == 0) {
-            put_word(at, word_of(JR, 1 + random_below(4), random_below(32)));
-            put_word(at + 2, word_of(34, random_below(32), free_register()));
+            put_word(at, word_of(JR, 1, 0) + random_below(4 * 32));
+            put_word(at + 2, calm_word_after_jump());
             at += 4;
         } else if (random_below(16) == 0) {
             put_word(at, word_of(MOVEI, 0, free_register()));
@@ -228,5 +239,5 @@ void put_loop(void)
         put_word(at + 2 * i, word_of(NOP, 0, 0));
     }
     put_word(at + 10, word_of(JUMP, START, 0));
-    put_word(at + 12, calm_word());
+    put_word(at + 12, calm_word_after_jump());
 }

@@ -1,4 +1,5 @@
-/* A small generator of random numbers, the same on every machine: xorshift64* of Marsaglia and Vigna. */
+/* A small generator of random numbers, the same on every machine: xorshift64* of Marsaglia and Vigna. No expression may
+   draw two numbers in an order that C leaves to the compiler. */
 
 #ifndef RANDOM_H
 #define RANDOM_H

@@ -1,0 +1,140 @@
+/* A kiosk in small: runs an image frame by frame and says in plain words how it ended.
+
+   kiosk IMAGE [FRAMES]
+
+   IMAGE is a file of 4,096 bytes, the whole local RAM, with the program at its start. At most FRAMES frames are run, by
+   default 100. The program ends with 0 if the image stopped itself or used up its frames, with 1 on a fault, and with 2
+   if there was nothing to run. */
+
+#include <inttypes.h>
+#include <stdio.h>
+#include <stdlib.h>
+#include <string.h>
+
+#include "gpu.h"
+
+enum { STEPS_PER_FRAME = 100000, DEFAULT_FRAMES = 100, MOST_FRAMES = 1000000 };
+
+/* One byte more than RAM has, so that a longer file is seen to be longer. */
+static uint8_t ram[GPU_RAM_LENGTH + 1];
+static uint8_t block[GPU_BLOCK_LENGTH];
+
+/* Reads the file and gives its length, or 0 if it can not be read. */
+static size_t load_image(const char *path)
+{
+    FILE *file = fopen(path, "rb");
+    size_t length = 0;
+    if (file != NULL) {
+        length = fread(ram, 1, sizeof ram, file);
+        fclose(file);
+    }
+    return length;
+}
+
+/* The counter at the first word, running, all else zero. */
+static void put_start_state(void)
+{
+    memset(block, 0, sizeof block);
+    gpu_put_long(block, GPU_BLOCK_COUNTER, GPU_RAM_BASE);
+    gpu_put_long(block, GPU_BLOCK_STATUS, GPU_STATUS_RUNNING);
+}
+
+static void show_bank(const char *name, size_t offset)
+{
+    printf("%s\n", name);
+    for (unsigned i = 0; i < 32; i++) {
+        printf("%s%08" PRIX32 "%s", i % 8 == 0 ? "  " : " ", gpu_long(block, offset + 4 * i), i % 8 == 7 ? "\n" : "");
+    }
+}
+
+static void show_state(void)
+{
+    uint32_t status = gpu_long(block, GPU_BLOCK_STATUS);
+    printf("counter %08" PRIX32 ", Z %d, C %d, N %d, bank %d\n", gpu_long(block, GPU_BLOCK_COUNTER),
+           (status & GPU_STATUS_Z) != 0, (status & GPU_STATUS_C) != 0, (status & GPU_STATUS_N) != 0,
+           (status & GPU_STATUS_BANK) != 0);
+    if (status & GPU_STATUS_PENDING) {
+        printf("a jump to %08" PRIX32 " is pending\n", gpu_long(block, GPU_BLOCK_TARGET));
+    }
+    printf("remainder %08" PRIX32 ", accumulator %08" PRIX32 "\n", gpu_long(block, GPU_BLOCK_REMAINDER),
+           gpu_long(block, GPU_BLOCK_ACCUMULATOR));
+    show_bank("bank 0, R0 to R31", GPU_BLOCK_BANK0);
+    show_bank("bank 1, R0 to R31", GPU_BLOCK_BANK1);
+}
+
+/* Every answer of gpu_run has its sentence. */
+static const char *sentence(unsigned answer)
+{
+    switch (answer) {
+    case GPU_BUDGET_SPENT:
+        return "The program is still running, and its frames are used up.";
+    case GPU_STOPPED:
+        return "The program stopped itself.";
+    case GPU_WORD_NOT_BUILT:
+        return "The program came to a word that is no instruction.";
+    case GPU_COUNTER_OUTSIDE:
+        return "The program left local RAM, or came to an odd address.";
+    case GPU_ADDRESS_MISALIGNED:
+        return "The program used an address that is not a multiple of 4.";
+    case GPU_ADDRESS_OUTSIDE:
+        return "The program used an address where there is nothing.";
+    case GPU_JUMP_IS_PENDING:
+        return "The program has a jump, MOVEI or MOVE PC directly after a taken jump.";
+    case GPU_RAM_LENGTH_WRONG:
+        return "The image was refused: it can not be read, or is not 4,096 bytes long.";
+    case GPU_BUDGET_TOO_LARGE:
+        return "The call was refused: a frame has too many steps.";
+    case GPU_BLOCK_WRONG:
+        return "The call was refused: the state block has a wrong bit or target.";
+    case GPU_BLOCK_LENGTH_WRONG:
+        return "The call was refused: the state block has a wrong length.";
+    default:
+        return "The answer is unknown.";
+    }
+}
+
+static int exit_status(unsigned answer)
+{
+    if (answer == GPU_BUDGET_SPENT || answer == GPU_STOPPED) {
+        return 0;
+    }
+    return answer >= GPU_RAM_LENGTH_WRONG ? 2 : 1;
+}
+
+/* Gives the number of frames, or 0 if the text is no number from 1 to MOST_FRAMES. */
+static unsigned long frames_from(const char *text)
+{
+    char *end;
+    unsigned long frames = strtoul(text, &end, 10);
+    return text[0] == '-' || *end != '\0' || frames > MOST_FRAMES ? 0 : frames;
+}
+
+int main(int argc, char **argv)
+{
+    unsigned long frames = argc > 2 ? frames_from(argv[2]) : DEFAULT_FRAMES;
+    if (argc < 2 || argc > 3 || frames == 0) {
+        fprintf(stderr, "usage: kiosk IMAGE [FRAMES], with 1 to %d frames\n", MOST_FRAMES);
+        return 2;
+    }
+
+    size_t length = load_image(argv[1]);
+    unsigned answer = GPU_BUDGET_SPENT;
+    unsigned long frame = 0;
+    uint64_t steps = 0;
+    put_start_state();
+
+    /* A real kiosk would draw its picture from RAM after each frame. A wrong length is left for gpu_run to refuse. */
+    while (answer == GPU_BUDGET_SPENT && frame < frames) {
+        uint64_t reply = gpu_run(ram, length, block, sizeof block, STEPS_PER_FRAME);
+        answer = gpu_answer(reply);
+        steps += gpu_steps(reply);
+        frame++;
+    }
+
+    printf("%s\n", sentence(answer));
+    if (answer < GPU_RAM_LENGTH_WRONG) {
+        printf("answer %u after %" PRIu64 " steps, in frame %lu\n", answer, steps, frame);
+        show_state();
+    }
+    return exit_status(answer);
+}
