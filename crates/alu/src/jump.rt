@@ -1,39 +1,35 @@
 // A jump's condition, and the target of a JR.
 ghost use mathlib.Core.Path.{_≡_};
-ghost use mathlib.Core.Bool.{cond, false};
-ghost use Rattle.alu.specs.Jump.{metOf, takenOf, jrTargetOf};
+ghost use Rattle.alu.specs.Jump.{chosenOf, metOf, takenOf, jrTargetOf};
 use values::Flags;
 use values::signed::unsigned;
 
-fn both(a: bool, b: bool) -> bool
-    ensures { λ r. ⌜ r ≡ cond a b false ⌝ }
+// The flag that bit 4 chooses.
+fn chosen(bits: u32, f: Flags) -> u32
+    ensures { λ r. ⌜ r ≡ chosenOf bits f ⌝ }
 {
-    if a { b } else { false }
+    if bits / 16 % 2 == 1 { f.n } else { f.c }
 }
 
-fn chosen(by_n: bool, n: bool, c: bool) -> bool
-    ensures { λ r. ⌜ r ≡ cond «by_n» n c ⌝ }
+// Whether a pair of condition bits is met: the first needs the flag clear, the second needs it set.
+fn met(clear: u32, set: u32, flag: u32) -> bool
+    ensures { λ r. ⌜ r ≡ metOf clear set flag ⌝ }
 {
-    if by_n { n } else { c }
+    if flag == 1 { clear == 0 } else { set == 0 }
 }
 
-// Whether a condition bit is met: it is zero, or what it needs holds.
-fn met(asked: bool, holds: bool) -> bool
-    ensures { λ r. ⌜ r ≡ metOf asked holds ⌝ }
-{
-    if asked { holds } else { true }
-}
-
-// Whether a jump with these condition bits is taken.
+// Whether a jump with these condition bits is taken. Condition 0 asks nothing, and is the commonest.
 pub fn taken(bits: u32, f: Flags) -> bool
     ensures { λ r. ⌜ r ≡ takenOf bits f ⌝ }
 {
-    let z = f.z == 1;
-    let flag = chosen(bits / 16 % 2 == 1, f.n == 1, f.c == 1);
-    both(
-        both(met(bits % 2 == 1, !z), met(bits / 2 % 2 == 1, z)),
-        both(met(bits / 4 % 2 == 1, !flag), met(bits / 8 % 2 == 1, flag)),
-    )
+    if bits == 0 {
+        return true;
+    }
+    if met(bits % 2, bits / 2 % 2, f.z) {
+        met(bits / 4 % 2, bits / 8 % 2, chosen(bits, f))
+    } else {
+        false
+    }
 }
 
 // The target of a JR at pc.

@@ -9,6 +9,8 @@ ghost use Rattle.card.specs.Digits.{digitOf, hexDigits, decimalOf};
 ghost use Rattle.card.specs.Text.{lineOf, cardText};
 ghost use Rattle.card.specs.Wrote.{Wrote};
 
+pub mod image;
+
 // What the card tells of a run: its answer and its steps, and the state after them.
 pub struct Card {
     pub answer: u32,

@@ -1,0 +1,13 @@
+-- A printed card is no longer than the array that holds it.
+-- Assumes nothing.
+use Prim.Native.Nat.{ℕ, _≤_}
+use mathlib.Core.Path.{_≡_, ap}
+use mathlib.Core.List.{List}
+use native.Mathlib.Omega.{arith}
+use lib.ListN.{length, length-append}
+use Rattle.card.specs.Image.{Printed, printed, printedOf}
+
+pub room : {count : ℕ} {out ram : List ℕ} (ram₀ out₀ : List ℕ) → printed count out ram ≡ printedOf ram₀ out₀ → count ≤ length out
+unfolding printedOf
+room ram₀ out₀ e =
+    omega (arith, ap (λ p. p .count) e, simp length-append at (ap (λ p. length (p .out)) e))
