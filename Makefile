@@ -1,14 +1,50 @@
-.PHONY: help rows test check
+CC = gcc
+CFLAGS = -std=c11 -O2 -Wall -Wextra -Werror -Iinclude -Ibench
+ARCHIVE = target/staticlib/libkiosk.a
+IMAGE = examples/card.words
+DIFFERENTIAL = $(wildcard tests/differential/*.c) bench/interpreter.c
+
+.PHONY: help run rows kiosk test tests bench check
 
 help: ## list these commands
-	@grep -E '^[a-z]+:.*##' Makefile | sed 's/:.*## /\t/' | expand -t 12
+	@grep -E '^[a-z]+:.*##' Makefile | sed 's/:.*## /\t/' | expand -t 10
+
+run: ## run an image and print its card: IMAGE=FILE, of 4,096 bytes or a .words file (default: paper 01's card)
+	@mkdir -p target; rt check run >target/check.log 2>&1 || { cat target/check.log; exit 1; }
+	@case "$(IMAGE)" in \
+	*.words) python3 tools/image.py "$(IMAGE)" | target/bin/run ;; \
+	*) target/bin/run <"$(IMAGE)" ;; \
+	esac
 
 rows: ## run the published rows and the further vectors through the compiled functions
-	@rt check vectors >/dev/null || { echo "a crate is not proved; rt check says which:"; rt check vectors; }
+	@mkdir -p target; rt check vectors >target/check.log 2>&1 || { cat target/check.log; exit 1; }
 	@target/bin/vectors
+
+kiosk: target/kiosk ## run an image frame by frame as the kiosk does: IMAGE=FILE, as for run
+	@python3 tools/image.py "$(IMAGE)" >target/image.bin && target/kiosk target/image.bin
 
 test: ## the whole gate: proofs, must-fail edits, programs, tests
 	@.ci/run
 
+tests: target/differential target/kiosk ## the tests over what is built already
+	@tests/run
+
+bench: target/bench ## time a run beside a plain C interpreter
+	@target/bench
+
 check: ## prove what has changed, and run the programs
 	@rt check
+
+$(ARCHIVE):
+	@mkdir -p target
+	@echo "building $@ (about a minute)"
+	@rt staticlib kiosk >target/staticlib.log 2>&1 || { cat target/staticlib.log; exit 1; }
+
+target/differential: $(DIFFERENTIAL) $(ARCHIVE)
+	$(CC) $(CFLAGS) $(DIFFERENTIAL) $(ARCHIVE) -o $@
+
+target/bench: bench/bench.c bench/interpreter.c $(ARCHIVE)
+	$(CC) $(CFLAGS) bench/bench.c bench/interpreter.c $(ARCHIVE) -o $@
+
+target/kiosk: examples/kiosk.c $(ARCHIVE)
+	$(CC) $(CFLAGS) examples/kiosk.c $(ARCHIVE) -o $@

@@ -2,6 +2,7 @@
 -- Assumes nothing.
 use borrow.Author.Needs.{needs}
 use mathlib.Core.Path.{_∙_, sym}
+use native.Mathlib.Omega.{arith}
 use borrow.Author.Tests.{eq-eqb, ne-eqb, lt-ltb, le-ltb, not-true, not-false}
 use Rattle.kiosk.specs.Call.{callOf}
 use Rattle.kiosk.proofs.gpu_run.Statement.{statement}
@@ -27,7 +28,7 @@ unfolding callOf
 returns-4 c =
     let v = c .before .before in
     let t = v .before .before .before .before .before in
-    rw (eq-eqb _ _ (t .before .if1 .left), eq-eqb _ _ (t .if2 .left), ← v .before .before .before .long-at .ensures, ← v .before .long-at2 .ensures, sym (v .is-valid .ensures) ∙ not-false _ (c .before .if3 .left), lt-ltb _ _ (c .if4 .taken))
+    rw (eq-eqb _ _ (t .before .if1 .left), eq-eqb _ _ (t .if2 .left), ← v .before .before .before .long-at .ensures, ← v .before .long-at2 .ensures, sym (v .is-valid .ensures) ∙ not-false _ (c .before .if3 .left), lt-ltb 1000000 (t .before .before .before .before .args .budget) (omega (arith, c .if4 .taken)))
 
 returns-5 : tie.Need-returns-5
 unfolding callOf
@@ -38,7 +39,7 @@ returns-5 c =
     let e = d .before .before in
     let v = e .before .before in
     let t = v .before .before .before .before .before in
-    rw (eq-eqb _ _ (t .before .if1 .left), eq-eqb _ _ (t .if2 .left), ← v .before .before .before .long-at .ensures, ← v .before .long-at2 .ensures, sym (v .is-valid .ensures) ∙ not-false _ (e .before .if3 .left), le-ltb _ _ (e .if4 .left), ← d .read .ensures, ← r .run .ensures, b .write .ensures, c .before .number .ensures)
+    rw (eq-eqb _ _ (t .before .if1 .left), eq-eqb _ _ (t .if2 .left), ← v .before .before .before .long-at .ensures, ← v .before .long-at2 .ensures, sym (v .is-valid .ensures) ∙ not-false _ (e .before .if3 .left), le-ltb 1000000 (t .before .before .before .before .args .budget) (omega (arith, e .if4 .left)), ← d .read .ensures, ← r .run .ensures, b .write .ensures, c .before .number .ensures)
 
 pub gpu-run-spec : {M : Type 1} → statement M
 gpu-run-spec =
