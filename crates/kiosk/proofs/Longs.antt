@@ -5,6 +5,8 @@ use mathlib.Core.Path.{_≡_, refl, sym, ap, _∙_}
 use mathlib.Core.List.{List, [], _∷_, _++_}
 use mathlib.Core.Bool.{Bool, true, false}
 use native.Mathlib.Omega.{arith}
+use native.Mathlib.Nat.{div-add-mod', mul-comm, add-comm}
+use lib.Pow.{shr-shr}
 use borrow.Author.Tests.{ltb-true, ltb-false}
 use lib.Dec.{ltb}
 use native.Mathlib.Numerals.{add-one}
@@ -16,6 +18,11 @@ use Rattle.kiosk.specs.Block.{longs, putLongs}
 -- every element is a byte
 abbrev pub Bytes : List ℕ → Type 0
 Bytes l = (i : ℕ) → getD l i 0 < 256
+
+-- a number is its low digits and its high ones
+pub digits : (k j s : ℕ) → s / 2 ^ k ≡ s / 2 ^ k % 2 ^ j + 2 ^ j * (s / 2 ^ (k + j))
+digits k j s =
+    sym (div-add-mod' (s / 2 ^ k) (2 ^ j)) ∙ rw (shr-shr s k j, mul-comm (s / 2 ^ (k + j)) (2 ^ j), add-comm (2 ^ j * (s / 2 ^ (k + j))) (s / 2 ^ k % 2 ^ j))
 
 -- the four bytes of four bytes put together
 module _ (a b c d : ℕ) (ha : a < 256) (hb : b < 256) (hc : c < 256) (hd : d < 256) where
@@ -41,12 +48,12 @@ put-back l i h =
     rw (first a b c d (h i) (h (i + 1)) (h (i + 2)) (h (i + 3)), second a b c d (h i) (h (i + 1)) (h (i + 2)) (h (i + 3)), third a b c d (h i) (h (i + 1)) (h (i + 2)) (h (i + 3)), fourth a b c d (h i) (h (i + 1)) (h (i + 2)) (h (i + 3)), set-getD l i 0, set-getD l (i + 1) 0, set-getD l (i + 2) 0, set-getD l (i + 3) 0)
 
 -- the first m longs of a block
-longs-length : (block : List ℕ) (at m : ℕ) → length (longs block at m) ≡ m
+pub longs-length : (block : List ℕ) (at m : ℕ) → length (longs block at m) ≡ m
 unfolding longs
 longs-length block at zero = refl
 longs-length block at (suc m) = simp (length-append, longs-length block at m) (omega arith)
 
-longs-at : (block : List ℕ) (at m j : ℕ) → j < m → getD (longs block at m) j 0 ≡ longAt block (at + 4 * j)
+pub longs-at : (block : List ℕ) (at m j : ℕ) → j < m → getD (longs block at m) j 0 ≡ longAt block (at + 4 * j)
 unfolding longs
 longs-at block at zero j h = absurd (omega arith)
 longs-at block at (suc m) j h = go (longs-at block at m j) (ltb j m) refl

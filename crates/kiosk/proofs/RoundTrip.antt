@@ -5,15 +5,13 @@ use mathlib.Core.Path.{_≡_, refl, sym, ap, _∙_}
 use mathlib.Core.Bool.{Bool, true, false, cond}
 use mathlib.Core.List.{List}
 use native.Mathlib.Omega.{arith}
-use native.Mathlib.Nat.{div-add-mod', mul-comm, add-comm}
-use lib.Pow.{shr-shr}
 use borrow.Author.Tests.{eqb-true, eqb-false}
 use lib.Dec.{eqb}
 use Rattle.memory.specs.Memory.{longAt, putLong}
 use Rattle.state.specs.declared.Pending.the-variants.{None, At}
 use Rattle.state.specs.declared.Activity.the-variants.{Running, Stopped}
 use Rattle.kiosk.specs.Block.{validOf, pendingIn, activityIn, coreFrom, coreAt, stateAt, targetOf, pendingBit, activityBit, statusOf, putCore, putLongs, putState}
-use Rattle.kiosk.proofs.Longs.{Bytes, put-back, bank-back}
+use Rattle.kiosk.proofs.Longs.{Bytes, digits, put-back, bank-back}
 
 -- what a valid status and target are
 record Valid (status target : ℕ) : Type 0 where
@@ -60,11 +58,6 @@ activity-back status = go (eqb (status / 2 ^ 16 % 2) 1) refl
     go : (t : Bool) → eqb (status / 2 ^ 16 % 2) 1 ≡ t → activityBit (cond t Running Stopped) ≡ status / 2 ^ 16 % 2
     go true e = sym (eqb-true _ _ e)
     go false e = zero-bit (status / 2 ^ 16) (eqb-false _ _ e)
-
--- a number is its low digits and its high ones
-digits : (k j s : ℕ) → s / 2 ^ k ≡ s / 2 ^ k % 2 ^ j + 2 ^ j * (s / 2 ^ (k + j))
-digits k j s =
-    sym (div-add-mod' (s / 2 ^ k) (2 ^ j)) ∙ rw (shr-shr s k j, mul-comm, add-comm)
 
 -- the bits of a valid status put together again, each digit told by those above it
 assembled : (s q1 q2 q3 q14 q15 q16 q17 q18 b0 b1 b2 b14 b16 b17 b18 : ℕ) → s ≡ b0 + 2 * q1 → q1 ≡ b1 + 2 * q2 → q2 ≡ b2 + 2 * q3 → q3 ≡ 0 + 2048 * q14 → q14 ≡ b14 + 2 * q15 → q15 ≡ 0 + 2 * q16 → q16 ≡ b16 + 2 * q17 → q17 ≡ b17 + 2 * q18 → q18 ≡ b18 + 2 * 0 → b0 + 2 * b1 + 4 * b2 + 16384 * b14 + 65536 * b16 + 131072 * b17 + 262144 * b18 ≡ s
