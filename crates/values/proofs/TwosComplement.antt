@@ -72,13 +72,13 @@ abs-mul (pos a) (negsuc b) = abs-neg (a * suc b)
 abs-mul (negsuc a) (pos b) = abs-neg (suc a * b)
 abs-mul (negsuc a) (negsuc b) = refl
 
-mul-fits : (a b : ℤ) → SFits w16 a → SFits w16 b → SFits w32 (a *ℤ b)
+pub mul-fits : (a b : ℤ) → SFits w16 a → SFits w16 b → SFits w32 (a *ℤ b)
 mul-fits a b f g =
     let m = mul-le-mul (natAbs-le a (f .sfits)) (natAbs-le b (g .sfits)) in
     record { sfits = omega (arith, mag-most (a *ℤ b), abs-mul a b, m) }
 
 -- a signed number of 16 bits, held in 32
-narrow : (n : ℕ) → SFits w16 (toZ w16 (n % 2 ^ 16))
+pub narrow : (n : ℕ) → SFits w16 (toZ w16 (n % 2 ^ 16))
 narrow n = sfits-toZ {w = w16} {n = n % 2 ^ 16} (record { fits = omega arith })
 
 widened : {z : ℤ} (n : ℕ) → z ≡ toZ w16 (n % 2 ^ 16) → toZ w32 (ofZ w32 z) ≡ toZ w16 (n % 2 ^ 16)
