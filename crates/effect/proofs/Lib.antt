@@ -1,2 +1,3 @@
 pub mod Opcodes
 pub mod Widths
+pub mod EffectWidths

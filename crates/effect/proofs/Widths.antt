@@ -39,7 +39,7 @@ pub record FlagBits (f : Flags) : Type 0 where
   pub n-bit : f .n < 2
   pub c-bit : f .c < 2
 
-bit-fits : (t : Bool) → bitOf t < 2
+pub bit-fits : (t : Bool) → bitOf t < 2
 bit-fits true = omega arith
 bit-fits false = omega arith
 
@@ -102,18 +102,19 @@ module _ (d : ℕ) (hd : d < 2 ^ 32) where
   sha-fit s =
       either (ltZ (toZ w32 s) (pos 0)) _ _ (left-fit (natAbs (toZ w32 s))) (right-signed-fit (natAbs (toZ w32 s)))
 
+  -- a difference is a word whatever is taken away
+  pub sub-fit : (s : ℕ) → Fit (subOf d s)
+  sub-fit s = record { value-fits = omega arith; carry-bit = bit-fits (ltb d s) }
+
+  pub subc-fit : (s c : ℕ) → Fit (subcOf d s c)
+  subc-fit s c = record { value-fits = omega arith; carry-bit = bit-fits (ltb d (s + c % 2)) }
+
   module _ (s : ℕ) (hs : s < 2 ^ 32) where
     pub add-fit : Fit (addOf d s)
     add-fit = record { value-fits = omega arith; carry-bit = omega arith }
 
     pub addc-fit : (c : ℕ) → Fit (addcOf d s c)
     addc-fit c = record { value-fits = omega arith; carry-bit = omega arith }
-
-    pub sub-fit : Fit (subOf d s)
-    sub-fit = record { value-fits = omega arith; carry-bit = bit-fits (ltb d s) }
-
-    pub subc-fit : (c : ℕ) → Fit (subcOf d s c)
-    subc-fit c = record { value-fits = omega arith; carry-bit = bit-fits (ltb d (s + c % 2)) }
 
     pub div-fits : (mode : ℕ) → (divOf d s mode .quotient < 2 ^ 32) × (divOf d s mode .remainder < 2 ^ 32)
     div-fits mode = go (eqb s 0) refl

@@ -1,0 +1,141 @@
+-- What an instruction computes fits: words of 32 bits and flags of one bit, where its operands do.
+-- Assumes nothing.
+use Prim.Native.Nat.{ℕ, _+_, _*_, _/_, _%_, _^_, _<_}
+use mathlib.Core.Bool.{Bool, true, false, cond}
+use mathlib.Core.List.{List, [], _∷_}
+use native.Mathlib.Omega.{arith}
+use lib.Dec.{eqb}
+use Rattle.isa.specs.declared.Instr.{Instr}
+use Rattle.isa.specs.declared.Instr.the-variants.{Add, Addc, Addq, Addqt, Sub, Subc, Subq, Subqt, Neg, And, Or, Xor, Not, Btst, Bset, Bclr, Mult, Imult, Imultn, Resmac, Imacn, Div, Abs, Sh, Shlq, Shrq, Sha, Sharq, Ror, Rorq, Cmp, Cmpq, Sat8, Sat16, Move, Moveq, Moveta, Movefa, Movei, Load, LoadR14n, LoadR15n, Store, StoreR14n, StoreR15n, MovePc, Jump, Jr, Mtoi, Normi, Nop, LoadR14r, LoadR15r, StoreR14r, StoreR15r, Sat24}
+use Rattle.isa.specs.declared.Decoded.{Decoded}
+use Rattle.isa.specs.declared.Decoded.the-variants as D
+use Rattle.isa.specs.Fields.{quickOf, signedFieldOf}
+use Rattle.isa.specs.Table.{formOf, instructions}
+use Rattle.isa.specs.Words.{opcodeIn, among, instructionAt, built, decodedAt, decodeOf}
+use Rattle.values.specs.Signed.{unsignedOf}
+use Rattle.effect.specs.declared.Operands.{Operands}
+use Rattle.effect.specs.declared.Effect.{Effect}
+use Rattle.effect.specs.declared.Effect.the-variants as E
+use Rattle.effect.specs.Effects.{effectOf, effectIn}
+use Rattle.effect.proofs.Widths.{Fit, FlagBits, bit-fits, flags-fit, abs-fit, left-fit, right-fit, right-signed-fit, rotate-fit, sh-fit, sha-fit, add-fit, addc-fit, sub-fit, subc-fit, div-fits, and-fit, or-fit, xor-fit, not-fit, bset-fit, bclr-fit, mult-fit, imult-fit, saturated-fit, mtoi-fit, normi-fit}
+
+pub record OperandsFit (x : Operands) : Type 0 where
+  pub s-fits : x .s < 2 ^ 32
+  pub d-fits : x .d < 2 ^ 32
+  pub acc-fits : x .acc < 2 ^ 32
+  pub n-bit : x .n < 2
+  pub c-bit : x .c < 2
+
+abbrev pub EffectFits : Effect → Type 0
+EffectFits E.NotBuilt = Unit {0}
+EffectFits E.Nothing = Unit {0}
+EffectFits (E.Write d r) = Fit r
+EffectFits (E.Keep d n) = n < 2 ^ 32
+EffectFits (E.Flags f) = FlagBits f
+EffectFits (E.Divide d q) = (q .quotient < 2 ^ 32) × (q .remainder < 2 ^ 32)
+EffectFits (E.Product r) = Fit r
+EffectFits (E.Accumulate n) = n < 2 ^ 32
+EffectFits (E.ToOther d n) = n < 2 ^ 32
+EffectFits (E.FromOther s d) = Unit {0}
+EffectFits (E.Immediate d) = Unit {0}
+EffectFits (E.Counter d) = Unit {0}
+EffectFits (E.Jump condition target) = target < 2 ^ 32
+EffectFits (E.Load d base offset) = Unit {0}
+EffectFits (E.Store base offset n) = n < 2 ^ 32
+
+quick-fits : (q : ℕ) → quickOf q < 2 ^ 32
+quick-fits q = go (eqb (q % 32) 0)
+  where
+    go : (t : Bool) → cond t 32 (q % 32) < 2 ^ 32
+    go true = omega arith
+    go false = omega arith
+
+abbrev Each : (Instr → Type 0) → List Instr → Type 0
+Each Q [] = Unit {0}
+Each Q (i ∷ is) = Q i × Each Q is
+
+infixr 4 _⊗_
+_⊗_ : {A B : Type 0} → A → B → A × B
+a ⊗ b = (a, b)
+
+module _ (Q : Instr → Type 0) (op : ℕ) (none : Q Nop) where
+  found : (is : List Instr) → Each Q is → Q (among op is)
+  found [] h = none
+  found (i ∷ is) h = go (found is (h .1)) (eqb (opcodeIn (formOf i)) op)
+    where
+      go : Q (among op is) → (t : Bool) → Q (cond t i (among op is))
+      go later true = h .0
+      go later false = later
+
+module _ (x : Operands) (h : OperandsFit x) where
+  -- in the order of the table
+  each : (s d : ℕ) → s < 2 ^ 32 → Each (λ i. EffectFits (effectOf i x)) (instructions s d)
+  each s d small =
+      add-fit (x .d) (h .d-fits) (x .s) (h .s-fits)
+      ⊗ addc-fit (x .d) (h .d-fits) (x .s) (h .s-fits) (x .c)
+      ⊗ add-fit (x .d) (h .d-fits) (quickOf s) (quick-fits s)
+      ⊗ add-fit (x .d) (h .d-fits) (quickOf s) (quick-fits s) .value-fits
+      ⊗ sub-fit (x .d) (h .d-fits) (x .s)
+      ⊗ subc-fit (x .d) (h .d-fits) (x .s) (x .c)
+      ⊗ sub-fit (x .d) (h .d-fits) (quickOf s)
+      ⊗ sub-fit (x .d) (h .d-fits) (quickOf s) .value-fits
+      ⊗ sub-fit 0 (omega arith) (x .d)
+      ⊗ and-fit (x .c) (h .c-bit) (x .d) (x .s) (h .d-fits)
+      ⊗ or-fit (x .c) (h .c-bit) (x .d) (x .s) (h .d-fits) (h .s-fits)
+      ⊗ xor-fit (x .c) (h .c-bit) (x .d) (x .s) (h .d-fits) (h .s-fits)
+      ⊗ not-fit (x .c) (h .c-bit) (x .d)
+      ⊗ record { z-bit = bit-fits (eqb (x .d / 2 ^ (s % 32) % 2) 0); n-bit = h .n-bit; c-bit = h .c-bit }
+      ⊗ bset-fit (x .c) (h .c-bit) (x .d) s (h .d-fits)
+      ⊗ bclr-fit (x .c) (h .c-bit) (x .d) s (h .d-fits)
+      ⊗ mult-fit (x .c) (h .c-bit) (x .d) (x .s)
+      ⊗ imult-fit (x .c) (h .c-bit) (x .d) (x .s)
+      ⊗ imult-fit (x .c) (h .c-bit) (x .d) (x .s)
+      ⊗ h .acc-fits
+      ⊗ omega arith
+      ⊗ div-fits (x .d) (h .d-fits) (x .s) (h .s-fits) (x .mode)
+      ⊗ abs-fit (x .d) (h .d-fits)
+      ⊗ sh-fit (x .d) (h .d-fits) (x .s)
+      ⊗ left-fit (x .d) (h .d-fits) (quickOf s)
+      ⊗ right-fit (x .d) (h .d-fits) (quickOf s)
+      ⊗ sha-fit (x .d) (h .d-fits) (x .s)
+      ⊗ right-signed-fit (x .d) (h .d-fits) (quickOf s)
+      ⊗ rotate-fit (x .d) (h .d-fits) (x .s)
+      ⊗ rotate-fit (x .d) (h .d-fits) (quickOf s)
+      ⊗ flags-fit _ (sub-fit (x .d) (h .d-fits) (x .s))
+      ⊗ flags-fit _ (sub-fit (x .d) (h .d-fits) (unsignedOf (signedFieldOf s)))
+      ⊗ saturated-fit (x .c) (h .c-bit) 255 (x .d) (omega arith)
+      ⊗ saturated-fit (x .c) (h .c-bit) 65535 (x .d) (omega arith)
+      ⊗ h .s-fits
+      ⊗ small
+      ⊗ h .s-fits
+      ⊗ tt
+      ⊗ tt
+      ⊗ tt
+      ⊗ tt
+      ⊗ tt
+      ⊗ h .d-fits
+      ⊗ h .d-fits
+      ⊗ h .d-fits
+      ⊗ tt
+      ⊗ h .s-fits
+      ⊗ omega arith
+      ⊗ mtoi-fit (x .c) (h .c-bit) (x .s)
+      ⊗ normi-fit (x .c) (h .c-bit) (x .s)
+      ⊗ tt
+      ⊗ tt
+      ⊗ tt
+      ⊗ h .d-fits
+      ⊗ h .d-fits
+      ⊗ saturated-fit (x .c) (h .c-bit) 16777215 (x .d) (omega arith)
+      ⊗ tt
+
+  decoded : (op s d : ℕ) → s < 2 ^ 32 → EffectFits (effectIn (decodedAt op s d) x)
+  unfolding decodedAt instructionAt
+  decoded op s d small = go (built op (eqb s 0) (eqb d 0))
+    where
+      go : (t : Bool) → EffectFits (effectIn (cond t (D.Built (among op (instructions s d))) D.NotBuilt) x)
+      go true = found (λ i. EffectFits (effectOf i x)) op tt (instructions s d) (each s d small)
+      go false = tt
+
+  pub effect-fits : (w : ℕ) → EffectFits (effectIn (decodeOf w) x)
+  effect-fits w = decoded (w / 1024) (w / 32 % 32) (w % 32) (omega arith)
