@@ -4,10 +4,10 @@ ARCHIVE = target/staticlib/libkiosk.a
 IMAGE = examples/card.words
 DIFFERENTIAL = $(wildcard tests/differential/*.c) bench/interpreter.c
 
-.PHONY: help run rows kiosk test tests bench check
+.PHONY: help run rows kiosk test tests bench instructions check
 
 help: ## list these commands
-	@grep -E '^[a-z]+:.*##' Makefile | sed 's/:.*## /\t/' | expand -t 10
+	@grep -E '^[a-z]+:.*##' Makefile | sed 's/:.*## /\t/' | expand -t 14
 
 run: ## run an image and print its card: IMAGE=FILE, of 4,096 bytes or a .words file (default: paper 01's card)
 	@mkdir -p target; rt check run >target/check.log 2>&1 || { cat target/check.log; exit 1; }
@@ -31,6 +31,9 @@ tests: target/differential target/kiosk ## the tests over what is built already
 
 bench: target/bench ## time a run beside a plain C interpreter
 	@target/bench
+
+instructions: target/bench ## count the instructions of a step, with valgrind
+	@bench/instructions
 
 check: ## prove what has changed, and run the programs
 	@rt check

@@ -1,9 +1,10 @@
 /* Times gpu_run against a plain C interpreter of the same machine, and shows that a long series of calls grows nothing.
 
-   bench [--pairs N] [--calls N] [--limit R]
+   bench [--pairs N] [--calls N] [--limit R] [--once LOOP]
      --pairs N   pairs of calls for each loop, at least 15; by default 31
      --calls N   calls in the series, at least 200; by default 1000
      --limit R   ends with 1 if the worst median ratio is above R, or if the series took more and more memory
+     --once LOOP calls both once on one loop, 0 to 3, and times nothing: for a tool that counts instructions
 
    The two run in one process in pairs of calls, in swapped order each time, and the ratio is taken within a pair: a
    machine that changes its speed changes both. */
@@ -361,6 +362,19 @@ static long run_series(size_t calls)
     return after - before;
 }
 
+/* Both on one loop, for bench/instructions. */
+static int call_once(unsigned long loop)
+{
+    if (loop >= LOOPS) {
+        fprintf(stderr, "bench: there are loops 0 to %d\n", LOOPS - 1);
+        return 2;
+    }
+    timed_fresh_call(MEASURED, &loops[loop]);
+    timed_fresh_call(interpreter_run, &loops[loop]);
+    printf("%s\n", loops[loop].name);
+    return 0;
+}
+
 static size_t at_least(size_t number, size_t least)
 {
     return number < least ? least : number;
@@ -377,8 +391,10 @@ int main(int argc, char **argv)
             calls = strtoul(argv[i + 1], NULL, 10);
         } else if (strcmp(argv[i], "--limit") == 0) {
             limit = strtod(argv[i + 1], NULL);
+        } else if (strcmp(argv[i], "--once") == 0) {
+            return call_once(strtoul(argv[i + 1], NULL, 10));
         } else {
-            fprintf(stderr, "usage: bench [--pairs N] [--calls N] [--limit R]\n");
+            fprintf(stderr, "usage: bench [--pairs N] [--calls N] [--limit R] [--once LOOP]\n");
             return 2;
         }
     }
