@@ -332,33 +332,48 @@ static long peak_kilobytes(void)
     return usage.ru_maxrss;
 }
 
-/* A series of calls that go on from each other's state, as a kiosk makes them. Gives the growth of peak memory. A first
-   call and the two lists are touched before, so that only what the series itself takes is seen. */
+/* What a series of calls goes on from. */
+struct series {
+    struct image image;
+    uint8_t block[GPU_BLOCK_LENGTH];
+};
+
+static void start_series(struct series *s)
+{
+    memset(s, 0, sizeof *s);
+    build_mix(&s->image);
+    put_start_state(s->block);
+}
+
+/* A series of calls that go on from each other's state, as a kiosk makes them. Gives the growth of peak memory. Each call
+   stands beside one of the interpreter, so that a machine that changes its speed does not look like a call that does. A
+   first pair and the two lists are touched before, so that only what the series itself takes is seen. */
 static long run_series(size_t calls)
 {
     static double first[ENDS], last[ENDS];
-    struct image image = {{0}, 0};
-    uint8_t block[GPU_BLOCK_LENGTH];
-    build_mix(&image);
-    put_start_state(block);
+    static struct series measured, plain;
+    start_series(&measured);
+    start_series(&plain);
     memset(first, 1, sizeof first);
     memset(last, 1, sizeof last);
-    timed_call(MEASURED, image.ram, block);
+    timed_call(MEASURED, measured.image.ram, measured.block);
+    timed_call(interpreter_run, plain.image.ram, plain.block);
     long before = peak_kilobytes();
     for (size_t i = 0; i < calls; i++) {
-        double time = timed_call(MEASURED, image.ram, block);
+        double time = timed_call(MEASURED, measured.image.ram, measured.block);
+        double ratio = time / timed_call(interpreter_run, plain.image.ram, plain.block);
         if (i < ENDS) {
-            first[i] = time;
+            first[i] = ratio;
         }
         if (i >= calls - ENDS) {
-            last[i - (calls - ENDS)] = time;
+            last[i - (calls - ENDS)] = ratio;
         }
     }
     long after = peak_kilobytes();
     printf("%zu calls of %d steps of the mix through %s\n", calls, GPU_BUDGET_LIMIT, MEASURED_NAME);
     printf("peak memory before %ld kB, after %ld kB\n", before, after);
-    printf("median time of the first %d calls %.3f ms, of the last %d calls %.3f ms\n", ENDS,
-           median(first, ENDS) * 1e3, ENDS, median(last, ENDS) * 1e3);
+    printf("median ratio of the first %d calls %.2f, of the last %d calls %.2f\n", ENDS, median(first, ENDS), ENDS,
+           median(last, ENDS));
     return after - before;
 }
 
