@@ -1,6 +1,6 @@
 """Prints what the program `vectors` must print, from the model alone."""
 
-from model import ROWS, class_of, decode, effect, taken
+from model import M, ROWS, class_of, decode, effect, taken
 
 EDGES = [
     0, 1, 2, 3, 7, 15, 16, 31, 32, 33, 63, 64, 255, 256, 0x7FFF, 0x8000, 0x8001, 0xFFFF, 0x10000, 0x3FFFFF, 0x400000,
@@ -85,6 +85,17 @@ def numbered(kinds, told):
     return [kinds.index(told[0])] + told[1:]
 
 
+def reached(told):
+    """An effect with the address that a load or a store reaches, where register i holds the i-th edge value."""
+    if told[0] == "load":
+        kind, d, base, offset = told
+        return [kind, d, (EDGES[base] + offset) % M]
+    if told[0] == "store":
+        kind, base, offset, value = told
+        return [kind, (EDGES[base] + offset) % M, value]
+    return told
+
+
 def family(name, opcodes):
     digest = Digest(name)
     for op in opcodes:
@@ -94,7 +105,7 @@ def family(name, opcodes):
                 "s": EDGES[n // 32 % 32], "d": EDGES[n % 32], "pc": 0xF03000 + 2 * n, "z": bit, "n": 1 - bit, "c": bit,
                 "acc": EDGES[n % 31], "mode": bit,
             }
-            digest.take(numbered(EFFECTS, effect(op << 10 | n & 1023, x)))
+            digest.take(numbered(EFFECTS, reached(effect(op << 10 | n & 1023, x))))
     digest.show()
 
 

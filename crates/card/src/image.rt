@@ -9,6 +9,7 @@ use machine::run;
 use state::Activity;
 use state::Core;
 use state::Pending;
+use state::flag_word;
 use values::Flags;
 
 // The state in which an image starts.
@@ -38,11 +39,12 @@ fn told(r: Ran) -> Card
     let answer = r.answer;
     let s = r.state;
     let k = s.core;
+    let f = k.flags;
     Card {
         answer: answer.number(),
         steps: r.steps,
         pc: k.pc,
-        flags: k.flag_register(),
+        flags: flag_word(f, k.bank),
         remainder: k.remainder,
         accumulator: k.accumulator,
     }

@@ -11,7 +11,7 @@ use Rattle.isa.specs.Words.{decodeOf}
 use Rattle.alu.specs.Jump.{takenOf}
 use Rattle.state.specs.State.{movedOf}
 use Rattle.memory.specs.Processor.{Processor}
-use Rattle.memory.specs.Memory.{placeOf, fetchOf}
+use Rattle.memory.specs.Memory.{immediateOf, placeOf, fetchOf}
 use Rattle.memory.specs.declared.Fetched.{Fetched}
 use Rattle.memory.specs.declared.Fetched.the-variants as F
 use Rattle.memory.specs.declared.Place.{Place}
@@ -27,9 +27,9 @@ use Rattle.state.specs.Answers.{completedOf}
 use Rattle.state.specs.declared.answers.Answer.the-variants.{Running, RamLength}
 use Rattle.cpu.specs.declared.apply.Loaded.{Loaded}
 use Rattle.cpu.specs.declared.apply.Loaded.the-variants as L
-use Rattle.cpu.specs.declared.apply.Immediate.{Immediate}
-use Rattle.cpu.specs.declared.apply.Immediate.the-variants as I
-use Rattle.cpu.specs.Step.{View, Outcome, Written, inActive, immediateOf, immediateWritten, moveImmediateOf, moveCounterOf, moveLoadedOf, loadOf, storeOf, addressOf, applyOf, operandsOf, unwritten, stayOf, doneOf, jumpOf, executeOf, fetchedOf, activeOf, advanceOf}
+use Rattle.memory.specs.declared.Immediate.{Immediate}
+use Rattle.memory.specs.declared.Immediate.the-variants as I
+use Rattle.cpu.specs.Step.{View, Outcome, Written, inActive, immediateWritten, moveImmediateOf, moveCounterOf, moveLoadedOf, loadOf, storeOf, applyOf, operandsOf, unwritten, stayOf, doneOf, jumpOf, executeOf, fetchedOf, activeOf, advanceOf}
 
 module _ (P : Processor) (ram : List ℕ) (v : View) where
   abbrev Untouched : Outcome → Type 0
@@ -60,7 +60,8 @@ module _ (P : Processor) (ram : List ℕ) (v : View) where
 
   move-loaded : (d : ℕ) (l : Loaded) → Untouched (inActive (moveLoadedOf (v .active) (v .core) d l) v ram)
   move-loaded d (L.Long n) = completed
-  move-loaded d (L.Refused answer) = λ e. (refl, refl)
+  move-loaded d L.Misaligned = λ e. (refl, refl)
+  move-loaded d L.Unmapped = λ e. (refl, refl)
 
   jumped : (condition target : ℕ) (p : Pending) → Untouched (unwritten ram v (jumpOf (v .core) p condition target))
   jumped condition target (At t) = λ e. (refl, refl)
@@ -85,13 +86,13 @@ module _ (P : Processor) (ram : List ℕ) (v : View) where
   applied (E.Immediate d) = move-immediate d (v .core .pending)
   applied (E.Counter d) = move-counter d (v .core .pending)
   applied (E.Jump condition target) = jumped condition target (v .core .pending)
-  applied (E.Load d base offset) =
-      move-loaded d (loadOf (v .core) ram (placeOf P (addressOf (v .active) base offset)))
-  applied (E.Store base offset n) = stored n (placeOf P (addressOf (v .active) base offset))
+  applied (E.Load d address) =
+      move-loaded d (loadOf (v .core) ram (placeOf P address))
+  applied (E.Store address n) = stored n (placeOf P address)
 
   fetched : (f : Fetched) → Untouched (fetchedOf P ram v f)
   unfolding executeOf
-  fetched (F.Word w) = applied (effectIn (decodeOf w) (operandsOf (v .active) (v .core) w))
+  fetched (F.Word w) = applied (effectIn (decodeOf w) (v .active) (operandsOf (v .active) (v .core) w))
   fetched F.Outside = λ e. (refl, refl)
 
   acted : (a : Activity) → Untouched (activeOf P ram v a)

@@ -8,7 +8,7 @@ use lib.Dec.{eqb}
 use lib.ListN.{length, getD, set, length-set}
 use Rattle.isa.specs.Words.{decodeOf}
 use Rattle.memory.specs.Processor.{Processor}
-use Rattle.memory.specs.Memory.{placeOf, fetchOf}
+use Rattle.memory.specs.Memory.{immediateOf, placeOf, fetchOf}
 use Rattle.memory.specs.declared.Fetched.{Fetched}
 use Rattle.memory.specs.declared.Fetched.the-variants as F
 use Rattle.memory.specs.declared.Place.{Place}
@@ -24,9 +24,9 @@ use Rattle.state.specs.declared.Activity.the-variants as A
 use Rattle.state.specs.declared.answers.Answer.the-variants.{RamLength}
 use Rattle.cpu.specs.declared.apply.Loaded.{Loaded}
 use Rattle.cpu.specs.declared.apply.Loaded.the-variants as L
-use Rattle.cpu.specs.declared.apply.Immediate.{Immediate}
-use Rattle.cpu.specs.declared.apply.Immediate.the-variants as I
-use Rattle.cpu.specs.Step.{View, Outcome, Written, immediateOf, immediateWritten, moveImmediateOf, moveCounterOf, moveLoadedOf, loadOf, storeOf, sameBank, addressOf, applyOf, operandsOf, executeOf, fetchedOf, activeOf, advanceOf}
+use Rattle.memory.specs.declared.Immediate.{Immediate}
+use Rattle.memory.specs.declared.Immediate.the-variants as I
+use Rattle.cpu.specs.Step.{View, Outcome, Written, immediateWritten, moveImmediateOf, moveCounterOf, moveLoadedOf, loadOf, storeOf, sameBank, applyOf, operandsOf, executeOf, fetchedOf, activeOf, advanceOf}
 
 -- the lengths of RAM, the active bank and the other one
 pub record Lengths (r a o : ℕ) (ram : List ℕ) (v : View) : Type 0 where
@@ -71,7 +71,8 @@ module _ (P : Processor) (r b : ℕ) (ram : List ℕ) (v : View) (h : Lengths r 
 
   move-loaded : (d : ℕ) (l : Loaded) → length (moveLoadedOf (v .active) (v .core) d l .active) ≡ length (v .active)
   move-loaded d (L.Long n) = simp length-set
-  move-loaded d (L.Refused answer) = refl
+  move-loaded d L.Misaligned = refl
+  move-loaded d L.Unmapped = refl
 
   applied : (e : Effect) → Keeps r b (applyOf P ram v e)
   unfolding applyOf
@@ -89,13 +90,13 @@ module _ (P : Processor) (r b : ℕ) (ram : List ℕ) (v : View) (h : Lengths r 
   applied (E.Immediate d) = kept _ _ (move-immediate d (v .core .pending))
   applied (E.Counter d) = kept _ _ (move-counter d (v .core .pending))
   applied (E.Jump condition target) = kept _ _ refl
-  applied (E.Load d base offset) =
-      kept _ _ (move-loaded d (loadOf (v .core) ram (placeOf P (addressOf (v .active) base offset))))
-  applied (E.Store base offset n) = stored n (placeOf P (addressOf (v .active) base offset))
+  applied (E.Load d address) =
+      kept _ _ (move-loaded d (loadOf (v .core) ram (placeOf P address)))
+  applied (E.Store address n) = stored n (placeOf P address)
 
   fetched : (f : Fetched) → Keeps r b (fetchedOf P ram v f)
   unfolding executeOf
-  fetched (F.Word w) = applied (effectIn (decodeOf w) (operandsOf (v .active) (v .core) w))
+  fetched (F.Word w) = applied (effectIn (decodeOf w) (v .active) (operandsOf (v .active) (v .core) w))
   fetched F.Outside = kept _ _ refl
 
   acted : (a : Activity) → Keeps r b (activeOf P ram v a)

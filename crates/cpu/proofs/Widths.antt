@@ -10,7 +10,7 @@ use Rattle.alu.specs.Jump.{takenOf}
 use Rattle.isa.specs.Words.{decodeOf}
 use Rattle.values.specs.Results.{flagsOf}
 use Rattle.memory.specs.Processor.{Processor}
-use Rattle.memory.specs.Memory.{wordAt, longAt, putLong, placeOf, fetchOf}
+use Rattle.memory.specs.Memory.{lowOf, highOf, immediateOf, wordAt, longAt, putLong, placeOf, fetchOf}
 use Rattle.memory.specs.declared.Fetched.{Fetched}
 use Rattle.memory.specs.declared.Fetched.the-variants as F
 use Rattle.memory.specs.declared.Place.{Place}
@@ -29,10 +29,9 @@ use Rattle.state.specs.declared.Activity.the-variants as A
 use Rattle.state.specs.declared.answers.Answer.the-variants.{Running, RamLength}
 use Rattle.cpu.specs.declared.apply.Loaded.{Loaded}
 use Rattle.cpu.specs.declared.apply.Loaded.the-variants as L
-use Rattle.cpu.specs.declared.apply.Moved.{Moved}
-use Rattle.cpu.specs.declared.apply.Immediate.{Immediate}
-use Rattle.cpu.specs.declared.apply.Immediate.the-variants as I
-use Rattle.cpu.specs.Step.{View, Outcome, Written, lowOf, highOf, immediateOf, immediateWritten, moveImmediateOf, moveCounterOf, moveLoadedOf, loadOf, storeOf, jumpOf, stayOf, doneOf, sameBank, addressOf, applyOf, operandsOf, executeOf, fetchedOf, activeOf, advanceOf}
+use Rattle.memory.specs.declared.Immediate.{Immediate}
+use Rattle.memory.specs.declared.Immediate.the-variants as I
+use Rattle.cpu.specs.Step.{View, Outcome, Written, immediateWritten, moveImmediateOf, moveCounterOf, moveLoadedOf, loadOf, storeOf, jumpOf, stayOf, doneOf, sameBank, applyOf, operandsOf, executeOf, fetchedOf, activeOf, advanceOf}
 
 -- every element is below m
 abbrev pub Below : ℕ → List ℕ → Type 0
@@ -134,7 +133,8 @@ FetchedFits F.Outside = Unit {0}
 
 abbrev LoadedFits : Loaded → Type 0
 LoadedFits (L.Long n) = n < 2 ^ 32
-LoadedFits (L.Refused answer) = Unit {0}
+LoadedFits L.Misaligned = Unit {0}
+LoadedFits L.Unmapped = Unit {0}
 
 abbrev ImmediateFits : Immediate → Type 0
 ImmediateFits (I.Long n) = n < 2 ^ 32
@@ -223,7 +223,8 @@ module _ (P : Processor) (ram : List ℕ) (v : View) (h : Widths ram v) where
 
   move-loaded : (d : ℕ) (l : Loaded) → LoadedFits l → WrittenFits (moveLoadedOf (v .active) (v .core) d l)
   move-loaded d (L.Long n) hn = writes d n _ hn finished
-  move-loaded d (L.Refused answer) hn = rest _ (h .core-fits)
+  move-loaded d L.Misaligned hn = rest _ (h .core-fits)
+  move-loaded d L.Unmapped hn = rest _ (h .core-fits)
 
   applied : (e : Effect) → EffectFits e → Keeps (applyOf P ram v e)
   unfolding applyOf
@@ -243,10 +244,10 @@ module _ (P : Processor) (ram : List ℕ) (v : View) (h : Widths ram v) where
   applied (E.Immediate d) f = move-immediate d (v .core .pending)
   applied (E.Counter d) f = move-counter d (v .core .pending)
   applied (E.Jump condition target) f = rest _ (jumped (v .core) (h .core-fits) (v .core .pending) condition target f)
-  applied (E.Load d base offset) f =
-      let at = placeOf P (addressOf (v .active) base offset) in
+  applied (E.Load d address) f =
+      let at = placeOf P address in
       move-loaded d (loadOf (v .core) ram at) (load-fits P ram (h .bytes) (v .core) (h .core-fits) at)
-  applied (E.Store base offset n) f = stored n (placeOf P (addressOf (v .active) base offset))
+  applied (E.Store address n) f = stored n (placeOf P address)
 
   operands-fit : (w : ℕ) → OperandsFit (operandsOf (v .active) (v .core) w)
   operands-fit w =
@@ -261,7 +262,7 @@ module _ (P : Processor) (ram : List ℕ) (v : View) (h : Widths ram v) where
   fetched : (f : Fetched) → Keeps (fetchedOf P ram v f)
   unfolding executeOf
   fetched (F.Word w) =
-      applied (effectIn (decodeOf w) (operandsOf (v .active) (v .core) w)) (effect-fits (operandsOf (v .active) (v .core) w) (operands-fit w) w)
+      applied (effectIn (decodeOf w) (v .active) (operandsOf (v .active) (v .core) w)) (effect-fits (v .active) (operandsOf (v .active) (v .core) w) (operands-fit w) w)
   fetched F.Outside = rest _ (h .core-fits)
 
   acted : (a : Activity) → Keeps (activeOf P ram v a)

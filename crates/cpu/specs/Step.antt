@@ -14,12 +14,15 @@ use Rattle.effect.specs.declared.Effect.{Effect}
 use Rattle.effect.specs.declared.Effect.the-variants as E
 use Rattle.effect.specs.declared.Operands.{Operands}
 use Rattle.memory.specs.Processor.{Processor}
-use Rattle.memory.specs.Memory.{longAt, putLong, fetchOf, placeOf}
+use Rattle.memory.specs.Memory.{longAt, putLong, fetchOf, immediateOf, placeOf}
 use Rattle.memory.specs.declared.Fetched.{Fetched}
 use Rattle.memory.specs.declared.Fetched.the-variants as F
+use Rattle.memory.specs.declared.Immediate.{Immediate}
+use Rattle.memory.specs.declared.Immediate.the-variants as I
 use Rattle.memory.specs.declared.Place.{Place}
 use Rattle.memory.specs.declared.Place.the-variants as M
 use Rattle.state.specs.declared.Core.{Core}
+use Rattle.state.specs.declared.live.Live.{Live}
 use Rattle.state.specs.declared.Pending.{Pending}
 use Rattle.state.specs.declared.Pending.the-variants.{None, At}
 use Rattle.state.specs.declared.Activity.{Activity}
@@ -29,9 +32,8 @@ use Rattle.state.specs.declared.answers.Answer.the-variants.{Running, Stopped, 
 use Rattle.cpu.specs.declared.apply.Moved.{Moved}
 use Rattle.cpu.specs.declared.apply.Loaded.{Loaded}
 use Rattle.cpu.specs.declared.apply.Loaded.the-variants as L
-use Rattle.cpu.specs.declared.apply.Immediate.{Immediate}
-use Rattle.cpu.specs.declared.apply.Immediate.the-variants as I
-use Rattle.state.specs.State.{movedOf, skippedOf, withFlags, withRemainder, withAccumulator, withMode, withControl, withFlagRegister, flagRegisterOf, bankIn}
+use Rattle.state.specs.Answers.{numberOf}
+use Rattle.state.specs.State.{coreOf, movedOf, skippedOf, withFlags, withRemainder, withAccumulator, withMode, withControl, withFlagRegister, flagRegisterOf, bankIn}
 
 -- The state with the active bank told first.
 pub record View : Type 0 where
@@ -48,19 +50,36 @@ pub record Outcome : Type 0 where
   pub view : View
   pub ram : List ℕ
 
-abbrev pub outcome : Moved → List ℕ → List ℕ → List ℕ → Outcome
+-- The answer of an instruction, and the state after it without its registers.
+pub record Change : Type 0 where
+  pub answer : Answer
+  pub core : Core
+
+abbrev pub outcome : Change → List ℕ → List ℕ → List ℕ → Outcome
 outcome m a o ram = record { answer = m .answer; view = viewFrom a o (m .core); ram = ram }
 
+-- What the loop of a run holds, read as the state of a running machine.
+abbrev pub running : Live → Core
+running k = coreOf A.Running k
+
+abbrev pub movedWith : Answer → Live → Moved
+movedWith answer k = record { answer = answer; live = k }
+
+-- An instruction's answer in the loop, read as a change: 1 tells that it was completed and stopped the machine.
+unfoldable pub changeOf : Moved → Change
+changeOf m =
+    cond (eqb (numberOf (m .answer)) 1) (record { answer = Running; core = coreOf A.Stopped (m .live) }) (record { answer = m .answer; core = running (m .live) })
+
 -- The registers and RAM as they were.
-abbrev pub unwritten : List ℕ → View → Moved → Outcome
+abbrev pub unwritten : List ℕ → View → Change → Outcome
 unwritten ram v m = outcome m (v .active) (v .other) ram
 
 -- A fault: "state and RAM […] before the faulty step".
-abbrev pub stayOf : Answer → Core → Moved
+abbrev pub stayOf : Answer → Core → Change
 stayOf answer k = record { answer = answer; core = k }
 
 -- A completed instruction with nothing pending after it.
-abbrev pub doneOf : Core → Moved
+abbrev pub doneOf : Core → Change
 doneOf k = stayOf Running (movedOf k None)
 
 -- Register d of the active bank becomes n, and the rest k moves on.
@@ -68,33 +87,21 @@ abbrev pub writes : List ℕ → View → ℕ → ℕ → Core → Outcome
 writes ram v d n k = outcome (doneOf k) (set (v .active) (d % 32) n) (v .other) ram
 
 -- "A taken jump makes the target pending"; 15 is "JR, JUMP, MOVEI or MOVE PC while a jump is pending".
-abbrev pub jumpOf : Core → Pending → ℕ → ℕ → Moved
+abbrev pub jumpOf : Core → Pending → ℕ → ℕ → Change
 jumpOf k (At t) condition target = stayOf JumpPending k
 jumpOf k None condition target =
     cond (takenOf condition (k .flags)) (stayOf Running (movedOf k (At target))) (doneOf k)
 
 -- What an instruction that writes one register of the active bank leaves.
 pub record Written : Type 0 where
-  pub moved : Moved
+  pub moved : Change
   pub active : List ℕ
 
-abbrev pub written : Moved → List ℕ → Written
+abbrev pub written : Change → List ℕ → Written
 written m a = record { moved = m; active = a }
 
 abbrev pub inActive : Written → View → List ℕ → Outcome
 inActive w v ram = outcome (w .moved) (w .active) (v .other) ram
-
--- "MOVEI is followed by the low word, then the high word."
-abbrev pub highOf : ℕ → Fetched → Immediate
-highOf low (F.Word high) = I.Long (high * 2 ^ 16 + low)
-highOf low F.Outside = I.Outside
-
-abbrev pub lowOf : Fetched → Fetched → Immediate
-lowOf (F.Word low) second = highOf low second
-lowOf F.Outside second = I.Outside
-
-unfoldable pub immediateOf : Processor → List ℕ → ℕ → Immediate
-immediateOf P ram pc = lowOf (fetchOf P ram ((pc + 2) % 2 ^ 32)) (fetchOf P ram ((pc + 4) % 2 ^ 32))
 
 abbrev pub immediateWritten : List ℕ → Core → ℕ → Immediate → Written
 immediateWritten a k d (I.Long n) = written (stayOf Running (skippedOf k)) (set a (d % 32) n)
@@ -115,12 +122,13 @@ loadOf k ram (M.Ram at) = L.Long (longAt ram at)
 loadOf k ram M.Flags = L.Long (flagRegisterOf k)
 loadOf k ram M.Control = L.Long 0x2001
 loadOf k ram M.Divide = L.Long (k .remainder)
-loadOf k ram M.Misaligned = L.Refused Misaligned
-loadOf k ram M.Unmapped = L.Refused Unmapped
+loadOf k ram M.Misaligned = L.Misaligned
+loadOf k ram M.Unmapped = L.Unmapped
 
 abbrev pub moveLoadedOf : List ℕ → Core → ℕ → Loaded → Written
 moveLoadedOf a k d (L.Long n) = written (doneOf k) (set a (d % 32) n)
-moveLoadedOf a k d (L.Refused answer) = written (stayOf answer k) a
+moveLoadedOf a k d L.Misaligned = written (stayOf Misaligned k) a
+moveLoadedOf a k d L.Unmapped = written (stayOf Unmapped k) a
 
 -- Whether a write to the flag register leaves the active bank.
 abbrev pub sameBank : Core → ℕ → Bool
@@ -135,10 +143,6 @@ storeOf ram v n M.Control = unwritten ram v (doneOf (withControl (v .core) n))
 storeOf ram v n M.Divide = unwritten ram v (doneOf (withMode (v .core) n))
 storeOf ram v n M.Misaligned = unwritten ram v (stayOf Misaligned (v .core))
 storeOf ram v n M.Unmapped = unwritten ram v (stayOf Unmapped (v .core))
-
--- "address in a register, or R14 or R15 plus 4 × quick n or plus a register, modulo 2^32"
-abbrev pub addressOf : List ℕ → ℕ → ℕ → ℕ
-addressOf a base offset = (getD a (base % 32) 0 + offset) % 2 ^ 32
 
 unfoldable pub applyOf : Processor → List ℕ → View → Effect → Outcome
 applyOf P ram v E.NotBuilt = unwritten ram v (stayOf NotBuilt (v .core))
@@ -157,9 +161,9 @@ applyOf P ram v (E.Immediate d) =
 applyOf P ram v (E.Counter d) = inActive (moveCounterOf (v .active) (v .core) (v .core .pending) d) v ram
 applyOf P ram v (E.Jump condition target) =
     unwritten ram v (jumpOf (v .core) (v .core .pending) condition target)
-applyOf P ram v (E.Load d base offset) =
-    inActive (moveLoadedOf (v .active) (v .core) d (loadOf (v .core) ram (placeOf P (addressOf (v .active) base offset)))) v ram
-applyOf P ram v (E.Store base offset n) = storeOf ram v n (placeOf P (addressOf (v .active) base offset))
+applyOf P ram v (E.Load d address) =
+    inActive (moveLoadedOf (v .active) (v .core) d (loadOf (v .core) ram (placeOf P address))) v ram
+applyOf P ram v (E.Store address n) = storeOf ram v n (placeOf P address)
 
 -- What the instruction of the word w reads.
 abbrev pub operandsOf : List ℕ → Core → ℕ → Operands
@@ -167,7 +171,7 @@ operandsOf a k w =
     record { s = getD a (w / 32 % 32) 0; d = getD a (w % 32) 0; pc = k .pc; z = k .flags .z; n = k .flags .n; c = k .flags .c; acc = k .accumulator; mode = k .mode }
 
 unfoldable pub executeOf : Processor → List ℕ → View → ℕ → Outcome
-executeOf P ram v w = applyOf P ram v (effectIn (decodeOf w) (operandsOf (v .active) (v .core) w))
+executeOf P ram v w = applyOf P ram v (effectIn (decodeOf w) (v .active) (operandsOf (v .active) (v .core) w))
 
 -- "Fetching gives the word or the refusal, and later work takes only a word."
 abbrev pub fetchedOf : Processor → List ℕ → View → Fetched → Outcome

@@ -3,97 +3,107 @@ ghost use mathlib.Core.Path.{_≡_};
 ghost use lib.ListN.{length};
 ghost use Rattle.memory.specs.Memory.{placeOf};
 ghost use Rattle.memory.specs.Processor.{gpu};
-ghost use Rattle.cpu.specs.Step.{stayOf, doneOf, jumpOf, loadOf, storeOf, immediateOf, written, moveImmediateOf, moveCounterOf, moveLoadedOf, outcome, viewFrom, applyOf};
+ghost use Rattle.state.specs.State.{withControl};
+ghost use Rattle.cpu.specs.Step.{movedWith, changeOf, running, doneOf, jumpOf, loadOf, storeOf, written, moveImmediateOf, moveCounterOf, moveLoadedOf, outcome, viewFrom, applyOf};
 use crate::registers::get;
 use crate::registers::put;
 use crate::registers::settle;
 use alu::jump::taken;
 use effect::Effect;
-use memory::Fetched;
+use memory::Immediate;
 use memory::Place;
-use memory::fetch;
+use memory::fetch_long;
 use memory::locate;
 use memory::long_at;
 use memory::put_long;
-use state::Core;
-use state::Pending;
 use state::answers::Answer;
+use state::flag_word;
+use state::live::Live;
 
-// The answer of one instruction, and the state after it without its registers.
+// The answer of one instruction of a running machine, and what the loop holds after it: Running where it was completed,
+// Stopped where it was completed and stopped the machine, and else a fault.
 pub struct Moved {
     pub answer: Answer,
-    pub core: Core,
+    pub live: Live,
 }
 
 // What a load finds.
 pub enum Loaded {
     Long(u32),
-    Refused(Answer),
+    Misaligned,
+    Unmapped,
 }
 
-// The long that follows a MOVEI.
-pub enum Immediate {
-    Long(u32),
-    Outside,
-}
-
-// Nothing has changed but the answer.
-pub fn stay(answer: Answer, k: Core) -> Moved
-    ensures { λ r. ⌜ r ≡ stayOf answer k ⌝ }
+pub fn stay(answer: Answer, k: Live) -> Moved
+    ensures { λ r. ⌜ r ≡ movedWith answer k ⌝ }
 {
     Moved {
         answer: answer,
-        core: k,
+        live: k,
     }
 }
 
 // A whole instruction, with nothing pending after it.
-fn done(k: Core) -> Moved
-    ensures { λ r. ⌜ r ≡ doneOf k ⌝ }
+fn done(k: Live) -> Moved
+    ensures { λ r. ⌜ changeOf r ≡ doneOf (running k) ⌝ }
 {
-    stay(Answer::Running, k.moved(Pending::None))
+    stay(Answer::Running, k.moved(0, k.target))
 }
 
-fn jump(k: Core, condition: u32, target: u32) -> Moved
-    ensures { λ r. ⌜ r ≡ jumpOf k (k .pending) condition target ⌝ }
+fn jump(k: Live, condition: u32, target: u32) -> Moved
+    ensures { λ r. ⌜ changeOf r ≡ jumpOf (running k) (running k .pending) condition target ⌝ }
 {
-    let was = k.pending;
+    if k.waiting != 0 {
+        return stay(Answer::JumpPending, k);
+    }
     let f = k.flags;
-    match was {
-        Pending::At(_) => stay(Answer::JumpPending, k),
-        Pending::None => if taken(condition, f) {
-            stay(Answer::Running, k.moved(Pending::At(target)))
-        } else {
-            done(k)
-        },
+    if taken(condition, f) {
+        stay(Answer::Running, k.moved(1, target))
+    } else {
+        done(k)
     }
 }
 
-fn load(k: Core, ram: &[u8], address: u32) -> Loaded
+fn load(k: Live, ram: &[u8], address: u32) -> Loaded
     requires { ⌜ length (now ram) ≡ 4096 ⌝ }
-    ensures { λ r. ⌜ r ≡ loadOf k (now (ram .entry)) (placeOf gpu address) ⌝ }
+    ensures { λ r. ⌜ r ≡ loadOf (running k) (now (ram .entry)) (placeOf gpu address) ⌝ }
 {
     let p = locate(address);
     match p {
         Place::Ram(at) => Loaded::Long(long_at(ram, at)),
-        Place::Flags => Loaded::Long(k.flag_register()),
+        Place::Flags => {
+            let f = k.flags;
+            Loaded::Long(flag_word(f, k.bank))
+        }
         Place::Control => Loaded::Long(0x2001),
         Place::Divide => Loaded::Long(k.remainder),
-        Place::Misaligned => Loaded::Refused(Answer::Misaligned),
-        Place::Unmapped => Loaded::Refused(Answer::Unmapped),
+        Place::Misaligned => Loaded::Misaligned,
+        Place::Unmapped => Loaded::Unmapped,
+    }
+}
+
+// A write of v to the control register. Where it stops the machine, the answer tells so: no later instruction has to ask.
+fn control(k: Live, v: u32) -> Moved
+    ensures { λ r. ⌜ changeOf r ≡ doneOf (withControl (running k) v) ⌝ }
+{
+    let next = k.moved(0, k.target);
+    if v % 2 == 0 {
+        stay(Answer::Stopped, next)
+    } else {
+        stay(Answer::Running, next)
     }
 }
 
 fn store(
     a: &mut [u32; 32],
     o: &mut [u32; 32],
-    k: Core,
+    k: Live,
     ram: &mut [u8],
     address: u32,
     v: u32,
 ) -> Moved
     requires { ⌜ length (now ram) ≡ 4096 ⌝ }
-    ensures { λ r. ⌜ outcome r (now (a .exit)) (now (o .exit)) (now (ram .exit)) ≡ storeOf (now (ram .entry)) (viewFrom (now (a .entry)) (now (o .entry)) k) v (placeOf gpu address) ⌝ }
+    ensures { λ r. ⌜ outcome (changeOf r) (now (a .exit)) (now (o .exit)) (now (ram .exit)) ≡ storeOf (now (ram .entry)) (viewFrom (now (a .entry)) (now (o .entry)) (running k)) v (placeOf gpu address) ⌝ }
 {
     let p = locate(address);
     match p {
@@ -105,68 +115,51 @@ fn store(
             settle(a, o, k.bank % 2 == v / 16384 % 2);
             done(k.with_flag_register(v))
         }
-        Place::Control => done(k.with_control(v)),
+        Place::Control => control(k, v),
         Place::Divide => done(k.with_mode(v)),
         Place::Misaligned => stay(Answer::Misaligned, k),
         Place::Unmapped => stay(Answer::Unmapped, k),
     }
 }
 
-// The long behind a MOVEI at pc: the low word, then the high word.
-fn read_immediate(ram: &[u8], pc: u32) -> Immediate
-    ensures { λ r. ⌜ r ≡ immediateOf gpu (now (ram .entry)) pc ⌝ }
-{
-    let Fetched::Word(low) = fetch(ram, std::num::wrapping_add_u32(pc, 2)) else {
-        return Immediate::Outside;
-    };
-    let Fetched::Word(high) = fetch(ram, std::num::wrapping_add_u32(pc, 4)) else {
-        return Immediate::Outside;
-    };
-    Immediate::Long(high as u32 * 65536 + low as u32)
-}
-
 // A MOVEI into register d.
-fn move_immediate(a: &mut [u32; 32], k: Core, ram: &[u8], d: u32) -> Moved
-    ensures { λ r. ⌜ written r (now (a .exit)) ≡ moveImmediateOf gpu (now (ram .entry)) (now (a .entry)) k (k .pending) d ⌝ }
+fn move_immediate(a: &mut [u32; 32], k: Live, ram: &[u8], d: u32) -> Moved
+    requires { ⌜ length (now ram) ≡ 4096 ⌝ }
+    ensures { λ r. ⌜ written (changeOf r) (now (a .exit)) ≡ moveImmediateOf gpu (now (ram .entry)) (now (a .entry)) (running k) (running k .pending) d ⌝ }
 {
-    let was = k.pending;
-    match was {
-        Pending::At(_) => stay(Answer::JumpPending, k),
-        Pending::None => {
-            let i = read_immediate(ram, k.pc);
-            match i {
-                Immediate::Outside => stay(Answer::BadCounter, k),
-                Immediate::Long(v) => {
-                    put(a, d, v);
-                    stay(Answer::Running, k.skipped())
-                }
-            }
+    if k.waiting != 0 {
+        return stay(Answer::JumpPending, k);
+    }
+    let i = fetch_long(ram, k.pc);
+    match i {
+        Immediate::Outside => stay(Answer::BadCounter, k),
+        Immediate::Long(v) => {
+            put(a, d, v);
+            stay(Answer::Running, k.skipped())
         }
     }
 }
 
 // A MOVE PC into register d.
-fn move_counter(a: &mut [u32; 32], k: Core, d: u32) -> Moved
-    ensures { λ r. ⌜ written r (now (a .exit)) ≡ moveCounterOf (now (a .entry)) k (k .pending) d ⌝ }
+fn move_counter(a: &mut [u32; 32], k: Live, d: u32) -> Moved
+    ensures { λ r. ⌜ written (changeOf r) (now (a .exit)) ≡ moveCounterOf (now (a .entry)) (running k) (running k .pending) d ⌝ }
 {
-    let was = k.pending;
-    match was {
-        Pending::At(_) => stay(Answer::JumpPending, k),
-        Pending::None => {
-            put(a, d, k.pc);
-            done(k)
-        }
+    if k.waiting != 0 {
+        return stay(Answer::JumpPending, k);
     }
+    put(a, d, k.pc);
+    done(k)
 }
 
 // A LOAD into register d.
-fn move_loaded(a: &mut [u32; 32], k: Core, ram: &[u8], d: u32, address: u32) -> Moved
+fn move_loaded(a: &mut [u32; 32], k: Live, ram: &[u8], d: u32, address: u32) -> Moved
     requires { ⌜ length (now ram) ≡ 4096 ⌝ }
-    ensures { λ r. ⌜ written r (now (a .exit)) ≡ moveLoadedOf (now (a .entry)) k d (loadOf k (now (ram .entry)) (placeOf gpu address)) ⌝ }
+    ensures { λ r. ⌜ written (changeOf r) (now (a .exit)) ≡ moveLoadedOf (now (a .entry)) (running k) d (loadOf (running k) (now (ram .entry)) (placeOf gpu address)) ⌝ }
 {
     let l = load(k, ram, address);
     match l {
-        Loaded::Refused(answer) => stay(answer, k),
+        Loaded::Misaligned => stay(Answer::Misaligned, k),
+        Loaded::Unmapped => stay(Answer::Unmapped, k),
         Loaded::Long(v) => {
             put(a, d, v);
             done(k)
@@ -175,9 +168,9 @@ fn move_loaded(a: &mut [u32; 32], k: Core, ram: &[u8], d: u32, address: u32) -> 
 }
 
 // The effect's changes to the active bank, the other bank, RAM and the rest.
-pub fn apply(a: &mut [u32; 32], o: &mut [u32; 32], k: Core, ram: &mut [u8], e: Effect) -> Moved
+pub fn apply(a: &mut [u32; 32], o: &mut [u32; 32], k: Live, ram: &mut [u8], e: Effect) -> Moved
     requires { ⌜ length (now ram) ≡ 4096 ⌝ }
-    ensures { λ r. ⌜ outcome r (now (a .exit)) (now (o .exit)) (now (ram .exit)) ≡ applyOf gpu (now (ram .entry)) (viewFrom (now (a .entry)) (now (o .entry)) k) e ⌝ }
+    ensures { λ r. ⌜ outcome (changeOf r) (now (a .exit)) (now (o .exit)) (now (ram .exit)) ≡ applyOf gpu (now (ram .entry)) (viewFrom (now (a .entry)) (now (o .entry)) (running k)) e ⌝ }
 {
     match e {
         Effect::NotBuilt => stay(Answer::NotBuilt, k),
@@ -208,13 +201,7 @@ pub fn apply(a: &mut [u32; 32], o: &mut [u32; 32], k: Core, ram: &mut [u8], e: E
         Effect::Immediate(d) => move_immediate(a, k, ram, d),
         Effect::Counter(d) => move_counter(a, k, d),
         Effect::Jump(condition, target) => jump(k, condition, target),
-        Effect::Load(d, base, offset) => {
-            let address = std::num::wrapping_add_u32(get(a, base), offset);
-            move_loaded(a, k, ram, d, address)
-        }
-        Effect::Store(base, offset, v) => {
-            let address = std::num::wrapping_add_u32(get(a, base), offset);
-            store(a, o, k, ram, address, v)
-        }
+        Effect::Load(d, address) => move_loaded(a, k, ram, d, address),
+        Effect::Store(address, v) => store(a, o, k, ram, address, v),
     }
 }

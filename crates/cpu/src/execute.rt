@@ -2,7 +2,7 @@
 ghost use mathlib.Core.Path.{_≡_};
 ghost use lib.ListN.{length};
 ghost use Rattle.memory.specs.Processor.{gpu};
-ghost use Rattle.cpu.specs.Step.{outcome, viewFrom, operandsOf, executeOf, advanceOf};
+ghost use Rattle.cpu.specs.Step.{changeOf, running, outcome, viewFrom, operandsOf, executeOf, advanceOf};
 use crate::apply::Moved;
 use crate::apply::apply;
 use crate::apply::stay;
@@ -11,13 +11,12 @@ use effect::Operands;
 use effect::effect_at;
 use memory::Fetched;
 use memory::fetch;
-use state::Activity;
-use state::Core;
 use state::answers::Answer;
+use state::live::Live;
 
 // What the instruction of a word reads.
-fn operands_of(a: &[u32; 32], k: Core, w: u16) -> Operands
-    ensures { λ r. ⌜ r ≡ operandsOf (now (a .entry)) k w ⌝ }
+fn operands_of(a: &[u32; 32], k: Live, w: u16) -> Operands
+    ensures { λ r. ⌜ r ≡ operandsOf (now (a .entry)) (running k) w ⌝ }
 {
     let f = k.flags;
     let n = w as u32;
@@ -34,31 +33,23 @@ fn operands_of(a: &[u32; 32], k: Core, w: u16) -> Operands
 }
 
 // The instruction of a word that was fetched.
-fn execute(a: &mut [u32; 32], o: &mut [u32; 32], k: Core, ram: &mut [u8], w: u16) -> Moved
+fn execute(a: &mut [u32; 32], o: &mut [u32; 32], k: Live, ram: &mut [u8], w: u16) -> Moved
     requires { ⌜ length (now ram) ≡ 4096 ⌝ }
-    ensures { λ r. ⌜ outcome r (now (a .exit)) (now (o .exit)) (now (ram .exit)) ≡ executeOf gpu (now (ram .entry)) (viewFrom (now (a .entry)) (now (o .entry)) k) w ⌝ }
+    ensures { λ r. ⌜ outcome (changeOf r) (now (a .exit)) (now (o .exit)) (now (ram .exit)) ≡ executeOf gpu (now (ram .entry)) (viewFrom (now (a .entry)) (now (o .entry)) (running k)) w ⌝ }
 {
     let x = operands_of(a, k, w);
     let n = w as u32;
-    let e = effect_at(n / 1024, n / 32 % 32, n % 32, x);
+    let e = effect_at(n / 1024, n / 32 % 32, n % 32, a, x);
     apply(a, o, k, ram, e)
 }
 
-// One whole instruction: the active bank and the other one, the rest of the state, and RAM after it.
-pub fn advance(a: &mut [u32; 32], o: &mut [u32; 32], k: Core, ram: &mut [u8]) -> Moved
-    ensures { λ r. ⌜ outcome r (now (a .exit)) (now (o .exit)) (now (ram .exit)) ≡ advanceOf gpu (now (ram .entry)) (viewFrom (now (a .entry)) (now (o .entry)) k) ⌝ }
+// One whole instruction of a running machine: the active bank and the other one, the rest of the state, and RAM after it.
+pub fn advance(a: &mut [u32; 32], o: &mut [u32; 32], k: Live, ram: &mut [u8]) -> Moved
+    requires { ⌜ length (now ram) ≡ 4096 ⌝ }
+    ensures { λ r. ⌜ outcome (changeOf r) (now (a .exit)) (now (o .exit)) (now (ram .exit)) ≡ advanceOf gpu (now (ram .entry)) (viewFrom (now (a .entry)) (now (o .entry)) (running k)) ⌝ }
 {
-    if ram.len() != 4096 {
-        return stay(Answer::RamLength, k);
-    }
-    let activity = k.activity;
-    match activity {
-        Activity::Stopped => stay(Answer::Stopped, k),
-        Activity::Running => {
-            let Fetched::Word(w) = fetch(ram, k.pc) else {
-                return stay(Answer::BadCounter, k);
-            };
-            execute(a, o, k, ram, w)
-        }
-    }
+    let Fetched::Word(w) = fetch(ram, k.pc) else {
+        return stay(Answer::BadCounter, k);
+    };
+    execute(a, o, k, ram, w)
 }

@@ -40,8 +40,8 @@ EffectFits (E.FromOther s d) = Unit {0}
 EffectFits (E.Immediate d) = Unit {0}
 EffectFits (E.Counter d) = Unit {0}
 EffectFits (E.Jump condition target) = target < 2 ^ 32
-EffectFits (E.Load d base offset) = Unit {0}
-EffectFits (E.Store base offset n) = n < 2 ^ 32
+EffectFits (E.Load d address) = Unit {0}
+EffectFits (E.Store address n) = n < 2 ^ 32
 
 quick-fits : (q : ℕ) → quickOf q < 2 ^ 32
 quick-fits q = go (eqb (q % 32) 0)
@@ -67,9 +67,9 @@ module _ (Q : Instr → Type 0) (op : ℕ) (none : Q Nop) where
       go later true = h .0
       go later false = later
 
-module _ (x : Operands) (h : OperandsFit x) where
+module _ (a : List ℕ) (x : Operands) (h : OperandsFit x) where
   -- in the order of the table
-  each : (s d : ℕ) → s < 2 ^ 32 → Each (λ i. EffectFits (effectOf i x)) (instructions s d)
+  each : (s d : ℕ) → s < 2 ^ 32 → Each (λ i. EffectFits (effectOf i a x)) (instructions s d)
   each s d small =
       add-fit (x .d) (h .d-fits) (x .s) (h .s-fits)
       ⊗ addc-fit (x .d) (h .d-fits) (x .s) (h .s-fits) (x .c)
@@ -129,13 +129,13 @@ module _ (x : Operands) (h : OperandsFit x) where
       ⊗ saturated-fit (x .c) (h .c-bit) 16777215 (x .d) (omega arith)
       ⊗ tt
 
-  decoded : (op s d : ℕ) → s < 2 ^ 32 → EffectFits (effectIn (decodedAt op s d) x)
+  decoded : (op s d : ℕ) → s < 2 ^ 32 → EffectFits (effectIn (decodedAt op s d) a x)
   unfolding decodedAt instructionAt
   decoded op s d small = go (built op (eqb s 0) (eqb d 0))
     where
-      go : (t : Bool) → EffectFits (effectIn (cond t (D.Built (among op (instructions s d))) D.NotBuilt) x)
-      go true = found (λ i. EffectFits (effectOf i x)) op tt (instructions s d) (each s d small)
+      go : (t : Bool) → EffectFits (effectIn (cond t (D.Built (among op (instructions s d))) D.NotBuilt) a x)
+      go true = found (λ i. EffectFits (effectOf i a x)) op tt (instructions s d) (each s d small)
       go false = tt
 
-  pub effect-fits : (w : ℕ) → EffectFits (effectIn (decodeOf w) x)
+  pub effect-fits : (w : ℕ) → EffectFits (effectIn (decodeOf w) a x)
   effect-fits w = decoded (w / 1024) (w / 32 % 32) (w % 32) (omega arith)

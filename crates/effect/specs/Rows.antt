@@ -42,13 +42,13 @@ shown (E.ToOther d v) = []
 shown (E.FromOther s d) = []
 shown (E.Immediate d) = []
 shown (E.Counter d) = []
-shown (E.Load d b o) = []
-shown (E.Store b o v) = []
+shown (E.Load d address) = []
+shown (E.Store address v) = []
 
 -- Every flag is clear before, and so are the accumulator and the rest.
 abbrev outcome : Row → List ℕ
 outcome r =
-    shown (effectIn (decodeOf (r .word)) (record { s = r .s; d = r .d; pc = r .pc; z = 0; n = 0; c = 0; acc = 0; mode = r .mode }))
+    shown (effectIn (decodeOf (r .word)) [] (record { s = r .s; d = r .d; pc = r .pc; z = 0; n = 0; c = 0; acc = 0; mode = r .mode }))
 
 abbrev pub rows : List Row
 rows =

@@ -1,11 +1,12 @@
 // What an instruction does, told from what it reads: the view of it that a step takes.
 ghost use mathlib.Core.Path.{_≡_};
 ghost use mathlib.Core.Bool.{cond};
+ghost use Prim.Native.Nat.{_<_};
 ghost use lib.Dec.{eqb};
 ghost use Rattle.alu.specs.Add.{addOf, subOf};
 ghost use Rattle.alu.specs.Logic.{btstOf};
 ghost use Rattle.isa.specs.Words.{decodedAt};
-ghost use Rattle.effect.specs.Effects.{flagsIn, effectIn, nopOf};
+ghost use Rattle.effect.specs.Effects.{flagsIn, addressOf, effectIn, nopOf};
 use alu::add::abs;
 use alu::add::add;
 use alu::add::addc;
@@ -83,10 +84,10 @@ pub enum Effect {
     Counter(Reg),
     // Where the condition holds, the target becomes pending.
     Jump(Condition, u32),
-    // The register gets the long at the second register's content plus the offset.
-    Load(Reg, Reg, u32),
-    // The long at the register's content plus the offset becomes the value.
-    Store(Reg, u32, u32),
+    // The register gets the long at the address.
+    Load(Reg, u32),
+    // The long at the address becomes the value.
+    Store(u32, u32),
 }
 
 fn plus(d: u32, n: u32) -> u32
@@ -131,10 +132,18 @@ fn nop(s: u32, d: u32) -> Effect
     }
 }
 
-// The effect of a word's three fields. One match takes a word to its operation, with no instruction in between;
+// A base register's content plus an offset.
+fn indexed(a: &[u32; 32], base: usize, offset: u32) -> u32
+    requires { ⌜ base < 32 ⌝ }
+    ensures { λ r. ⌜ r ≡ addressOf (now (a .entry)) base offset ⌝ }
+{
+    std::num::wrapping_add_u32(a[base], offset)
+}
+
+// The effect of a word's three fields, with the active bank beside what it reads. One match takes a word to its operation, with no instruction in between;
 // the opcode table that decode is held to holds this too.
-pub fn effect_at(op: u32, s: u32, d: u32, x: Operands) -> Effect
-    ensures { λ r. ⌜ r ≡ effectIn (decodedAt op s d) x ⌝ }
+pub fn effect_at(op: u32, s: u32, d: u32, a: &[u32; 32], x: Operands) -> Effect
+    ensures { λ r. ⌜ r ≡ effectIn (decodedAt op s d) (now (a .entry)) x ⌝ }
 {
     match op {
         0 => Effect::Write(d, add(x.d, x.s)),
@@ -204,12 +213,12 @@ pub fn effect_at(op: u32, s: u32, d: u32, x: Operands) -> Effect
         } else {
             Effect::NotBuilt
         },
-        41 => Effect::Load(d, s, 0),
-        43 => Effect::Load(d, 14, quick_bytes(s)),
-        44 => Effect::Load(d, 15, quick_bytes(s)),
-        47 => Effect::Store(s, 0, x.d),
-        49 => Effect::Store(14, quick_bytes(s), x.d),
-        50 => Effect::Store(15, quick_bytes(s), x.d),
+        41 => Effect::Load(d, x.s),
+        43 => Effect::Load(d, indexed(a, 14, quick_bytes(s))),
+        44 => Effect::Load(d, indexed(a, 15, quick_bytes(s))),
+        47 => Effect::Store(x.s, x.d),
+        49 => Effect::Store(indexed(a, 14, quick_bytes(s)), x.d),
+        50 => Effect::Store(indexed(a, 15, quick_bytes(s)), x.d),
         51 => if s == 0 {
             Effect::Counter(d)
         } else {
@@ -220,15 +229,24 @@ pub fn effect_at(op: u32, s: u32, d: u32, x: Operands) -> Effect
         55 => Effect::Write(d, mtoi(x.s, x.c)),
         56 => Effect::Write(d, normi(x.s, x.c)),
         57 => nop(s, d),
-        58 => Effect::Load(d, 14, x.s),
-        59 => Effect::Load(d, 15, x.s),
-        60 => Effect::Store(14, x.s, x.d),
-        61 => Effect::Store(15, x.s, x.d),
+        58 => Effect::Load(d, indexed(a, 14, x.s)),
+        59 => Effect::Load(d, indexed(a, 15, x.s)),
+        60 => Effect::Store(indexed(a, 14, x.s), x.d),
+        61 => Effect::Store(indexed(a, 15, x.s), x.d),
         62 => if s == 0 {
             Effect::Write(d, sat24(x.d, x.c))
         } else {
             Effect::NotBuilt
         },
+        // Each opcode that is not built stands for itself, so that six bits need no test of their range.
+        39 => Effect::NotBuilt,
+        40 => Effect::NotBuilt,
+        42 => Effect::NotBuilt,
+        45 => Effect::NotBuilt,
+        46 => Effect::NotBuilt,
+        48 => Effect::NotBuilt,
+        54 => Effect::NotBuilt,
+        63 => Effect::NotBuilt,
         _ => Effect::NotBuilt,
     }
 }

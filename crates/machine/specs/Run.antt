@@ -5,7 +5,7 @@ use mathlib.Core.List.{List}
 use lib.Dec.{eqb, ltb}
 use lib.ListN.{length}
 use Rattle.memory.specs.Processor.{Processor}
-use Rattle.state.specs.declared.Core.{Core}
+use Rattle.state.specs.declared.live.Live.{Live}
 use Rattle.state.specs.declared.Activity.{Activity}
 use Rattle.state.specs.declared.Activity.the-variants as A
 use Rattle.state.specs.declared.answers.Answer.{Answer}
@@ -13,8 +13,9 @@ use Rattle.state.specs.declared.answers.Answer.the-variants.{Running, Stopped, 
 use Rattle.machine.specs.declared.State.{State}
 use Rattle.machine.specs.declared.Ran.{Ran}
 use Rattle.machine.specs.declared.Gone.{Gone}
-use Rattle.state.specs.Answers.{completedOf}
-use Rattle.cpu.specs.Step.{View, viewFrom, Outcome, advanceOf}
+use Rattle.state.specs.Answers.{numberOf, completedOf}
+use Rattle.state.specs.State.{coreOf}
+use Rattle.cpu.specs.Step.{running, View, viewFrom, Outcome, advanceOf}
 
 -- "The budget is 0 to 1,000,000."
 abbrev pub budgetLimit : ℕ
@@ -32,8 +33,10 @@ abbrev pub restOf : Activity → Answer
 restOf A.Running = Running
 restOf A.Stopped = Stopped
 
-abbrev pub endOf : Core → ℕ → Gone
-endOf k n = record { answer = restOf (k .activity); steps = n; core = k }
+-- How a run ends at an instruction after n steps: "a stop on the last budgeted step" is a step, and "A fault is not counted".
+abbrev pub leftOf : Answer → Live → ℕ → Gone
+leftOf answer k n =
+    cond (eqb (numberOf answer) 1) (record { answer = Stopped; steps = n + 1; core = coreOf A.Stopped k }) (record { answer = answer; steps = n; core = running k })
 
 abbrev pub goneWith : Gone → List ℕ → List ℕ → List ℕ → Runs
 goneWith r a o ram = record { answer = r .answer; steps = r .steps; view = viewFrom a o (r .core); ram = ram }

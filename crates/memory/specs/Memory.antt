@@ -6,6 +6,8 @@ use lib.ListN.{length, getD, set}
 use lib.Dec.{eqb, ltb}
 use Rattle.memory.specs.declared.Fetched.{Fetched}
 use Rattle.memory.specs.declared.Fetched.the-variants.{Word, Outside}
+use Rattle.memory.specs.declared.Immediate.{Immediate}
+use Rattle.memory.specs.declared.Immediate.the-variants as I
 use Rattle.memory.specs.declared.Place.{Place}
 use Rattle.memory.specs.declared.Place.the-variants.{Ram, Flags, Control, Divide, Misaligned, Unmapped}
 use Rattle.memory.specs.Processor.{Processor}
@@ -27,6 +29,18 @@ fetchOf P ram pc =
     cond (ltb pc (P .base)) Outside
     (cond (eqb (pc % 2) 1) Outside
     (cond (ltb (pc - P .base + 1) (length ram)) (Word (wordAt ram (pc - P .base))) Outside))
+
+-- "MOVEI is followed by the low word, then the high word."
+abbrev pub highOf : ℕ → Fetched → Immediate
+highOf low (Word high) = I.Long (high * 2 ^ 16 + low)
+highOf low Outside = I.Outside
+
+abbrev pub lowOf : Fetched → Fetched → Immediate
+lowOf (Word low) second = highOf low second
+lowOf Outside second = I.Outside
+
+unfoldable pub immediateOf : Processor → List ℕ → ℕ → Immediate
+immediateOf P ram pc = lowOf (fetchOf P ram ((pc + 2) % 2 ^ 32)) (fetchOf P ram ((pc + 4) % 2 ^ 32))
 
 abbrev pub registerOf : Processor → ℕ → Place
 registerOf P a =

@@ -1,13 +1,19 @@
 // Local RAM, lent as bytes, and the addresses that a LOAD or STORE can reach. Words and longs are stored high byte first.
 ghost use mathlib.Core.Path.{_≡_};
-ghost use Prim.Native.Nat.{_+_, _≤_, _<_};
+ghost use Prim.Native.Nat.{_+_, _%_, _^_, _≤_, _<_};
 ghost use lib.ListN.{length};
 ghost use Rattle.memory.specs.Processor.{gpu};
-ghost use Rattle.memory.specs.Memory.{longAt, putLong, fetchOf, registerOf, placeOf};
+ghost use Rattle.memory.specs.Memory.{wordAt, longAt, putLong, fetchOf, immediateOf, registerOf, placeOf};
 
 // What a fetch gives: the word, or the refusal.
 pub enum Fetched {
     Word(u16),
+    Outside,
+}
+
+// The long of a MOVEI.
+pub enum Immediate {
+    Long(u32),
     Outside,
 }
 
@@ -28,20 +34,50 @@ pub fn wide(x: u8) -> u32
     x as u32
 }
 
+fn word_at(ram: &[u8], at: usize) -> u32
+    requires { ⌜ at + 2 ≤ length (now ram) ⌝ }
+    ensures { λ r. ⌜ (r ≡ wordAt (now (ram .entry)) at) × (r < 65536) ⌝ }
+{
+    wide(ram[at]) * 256 + wide(ram[at + 1])
+}
+
+// The address less the base, modulo 2^32: below the size for an address in RAM, and for no other.
+fn offset(a: u32) -> u32
+    ensures { λ r. ⌜ ((r + 0xF03000) % 2 ^ 32 ≡ a) × (r < 2 ^ 32) ⌝ }
+{
+    std::num::wrapping_sub_u32(a, 0xF03000)
+}
+
 pub fn fetch(ram: &[u8], pc: u32) -> Fetched
+    requires { ⌜ length (now ram) ≡ 4096 ⌝ }
     ensures { λ r. ⌜ r ≡ fetchOf gpu (now (ram .entry)) pc ⌝ }
 {
-    if pc < 0xF03000 {
+    let at = offset(pc) as usize;
+    if at % 2 == 1 {
         return Fetched::Outside;
     }
-    if pc % 2 == 1 {
-        return Fetched::Outside;
-    }
-    let at = (pc - 0xF03000) as usize;
     if at + 1 < ram.len() {
-        Fetched::Word((wide(ram[at]) * 256 + wide(ram[at + 1])) as u16)
+        Fetched::Word(word_at(ram, at) as u16)
     } else {
         Fetched::Outside
+    }
+}
+
+// The long of a MOVEI at pc: the low word behind it, then the high word. One test does for both.
+pub fn fetch_long(ram: &[u8], pc: u32) -> Immediate
+    requires { ⌜ length (now ram) ≡ 4096 ⌝ }
+    ensures { λ r. ⌜ r ≡ immediateOf gpu (now (ram .entry)) pc ⌝ }
+{
+    let at = offset(std::num::wrapping_add_u32(pc, 2)) as usize;
+    if at % 2 == 1 {
+        return Immediate::Outside;
+    }
+    if at + 3 < ram.len() {
+        let low = word_at(ram, at);
+        let high = word_at(ram, at + 2);
+        Immediate::Long(high * 65536 + low)
+    } else {
+        Immediate::Outside
     }
 }
 
@@ -73,10 +109,7 @@ pub fn locate(a: u32) -> Place
     if a % 4 != 0 {
         return Place::Misaligned;
     }
-    if a < 0xF03000 {
-        return register_at(a);
-    }
-    let at = (a - 0xF03000) as usize;
+    let at = offset(a) as usize;
     if at < 4096 {
         Place::Ram(at)
     } else {

@@ -1,6 +1,7 @@
 -- The answers, each with paper 01's number.
 use Prim.Native.Nat.{ℕ}
-use mathlib.Core.Bool.{Bool, true, false}
+use mathlib.Core.Bool.{Bool}
+use lib.Dec.{eqb}
 use Rattle.state.specs.declared.answers.Answer.{Answer}
 use Rattle.state.specs.declared.answers.Answer.the-variants.{Running, Stopped, NotBuilt, BadCounter, Misaligned, Unmapped, JumpPending, RamLength, BudgetLimit}
 
@@ -18,12 +19,4 @@ numberOf BudgetLimit = 32
 
 -- Whether an instruction was completed: "A fault is not counted as a step", nor is a step of a stopped machine.
 abbrev pub completedOf : Answer → Bool
-completedOf Running = true
-completedOf Stopped = false
-completedOf NotBuilt = false
-completedOf BadCounter = false
-completedOf Misaligned = false
-completedOf Unmapped = false
-completedOf JumpPending = false
-completedOf RamLength = false
-completedOf BudgetLimit = false
+completedOf answer = eqb (numberOf answer) 0

@@ -37,16 +37,6 @@ impl Answer {
     pub fn completed(self) -> bool
         ensures { λ r. ⌜ r ≡ completedOf self ⌝ }
     {
-        match self {
-            Answer::Running => true,
-            Answer::Stopped => false,
-            Answer::NotBuilt => false,
-            Answer::BadCounter => false,
-            Answer::Misaligned => false,
-            Answer::Unmapped => false,
-            Answer::JumpPending => false,
-            Answer::RamLength => false,
-            Answer::BudgetLimit => false,
-        }
+        self.number() == 0
     }
 }

@@ -1,11 +1,11 @@
-// The state without its registers, and the functions that give it anew with one part changed.
-//
-// Every field is a number, or an enum or struct of numbers, so that the whole passes in registers. A flag is 0 or 1.
+// The state without its registers: as callers see it, and as the loop of a run holds it.
 ghost use mathlib.Core.Path.{_≡_};
-ghost use Rattle.state.specs.State.{counterOf, movedOf, skippedOf, withFlags, withRemainder, withAccumulator, withMode, activityOf, withControl, withFlagRegister, flagRegisterOf};
+ghost use Rattle.state.specs.State.{flagWordOf, waitingOf, targetOf, coreOf};
+use live::Live;
 use values::Flags;
 
 pub mod answers;
+pub mod live;
 
 // The target of a taken jump whose following instruction has not run yet.
 pub enum Pending {
@@ -21,6 +21,7 @@ pub enum Activity {
 pub struct Core {
     // The active bank, 0 or 1.
     pub bank: u32,
+    // Each is 0 or 1.
     pub flags: Flags,
     pub pc: u32,
     pub pending: Pending,
@@ -31,177 +32,47 @@ pub struct Core {
     pub activity: Activity,
 }
 
-fn counter(p: Pending, pc: u32) -> u32
-    ensures { λ r. ⌜ r ≡ counterOf p pc ⌝ }
+// What the flag register reads.
+pub fn flag_word(f: Flags, bank: u32) -> u32
+    ensures { λ r. ⌜ r ≡ flagWordOf f bank ⌝ }
+{
+    f.z % 2 + 2 * (f.c % 2) + 4 * (f.n % 2) + 16384 * (bank % 2)
+}
+
+fn waiting(p: Pending) -> u32
+    ensures { λ r. ⌜ r ≡ waitingOf p ⌝ }
 {
     match p {
-        Pending::None => std::num::wrapping_add_u32(pc, 2),
+        Pending::None => 0,
+        Pending::At(_) => 1,
+    }
+}
+
+fn target(p: Pending) -> u32
+    ensures { λ r. ⌜ r ≡ targetOf p ⌝ }
+{
+    match p {
+        Pending::None => 0,
         Pending::At(t) => t,
     }
 }
 
-fn activity_after(v: u32, a: Activity) -> Activity
-    ensures { λ r. ⌜ r ≡ activityOf v a ⌝ }
-{
-    if v % 2 == 0 { Activity::Stopped } else { a }
-}
-
 impl Core {
-    // After a whole instruction of one word, with p pending.
-    pub fn moved(self, p: Pending) -> Core
-        ensures { λ r. ⌜ r ≡ movedOf self p ⌝ }
+    // As the loop of a run holds it.
+    pub fn live(self) -> Live
+        ensures { λ r. ⌜ coreOf (self .activity) r ≡ self ⌝ }
     {
         let flags = self.flags;
-        let was = self.pending;
-        let activity = self.activity;
-        Core {
-            bank: self.bank,
-            flags: flags,
-            pc: counter(was, self.pc),
-            pending: p,
-            remainder: self.remainder,
-            mode: self.mode,
-            accumulator: self.accumulator,
-            activity: activity,
-        }
-    }
-
-    // After a MOVEI, of three words.
-    pub fn skipped(self) -> Core
-        ensures { λ r. ⌜ r ≡ skippedOf self ⌝ }
-    {
-        let flags = self.flags;
-        let activity = self.activity;
-        Core {
-            bank: self.bank,
-            flags: flags,
-            pc: std::num::wrapping_add_u32(self.pc, 6),
-            pending: Pending::None,
-            remainder: self.remainder,
-            mode: self.mode,
-            accumulator: self.accumulator,
-            activity: activity,
-        }
-    }
-
-    pub fn with_flags(self, f: Flags) -> Core
-        ensures { λ r. ⌜ r ≡ withFlags self f ⌝ }
-    {
-        let pending = self.pending;
-        let activity = self.activity;
-        Core {
-            bank: self.bank,
-            flags: f,
-            pc: self.pc,
-            pending: pending,
-            remainder: self.remainder,
-            mode: self.mode,
-            accumulator: self.accumulator,
-            activity: activity,
-        }
-    }
-
-    pub fn with_remainder(self, v: u32) -> Core
-        ensures { λ r. ⌜ r ≡ withRemainder self v ⌝ }
-    {
-        let flags = self.flags;
-        let pending = self.pending;
-        let activity = self.activity;
-        Core {
+        let p = self.pending;
+        Live {
             bank: self.bank,
             flags: flags,
             pc: self.pc,
-            pending: pending,
-            remainder: v,
-            mode: self.mode,
-            accumulator: self.accumulator,
-            activity: activity,
-        }
-    }
-
-    pub fn with_accumulator(self, v: u32) -> Core
-        ensures { λ r. ⌜ r ≡ withAccumulator self v ⌝ }
-    {
-        let flags = self.flags;
-        let pending = self.pending;
-        let activity = self.activity;
-        Core {
-            bank: self.bank,
-            flags: flags,
-            pc: self.pc,
-            pending: pending,
-            remainder: self.remainder,
-            mode: self.mode,
-            accumulator: v,
-            activity: activity,
-        }
-    }
-
-    // After a write of v to the divide register.
-    pub fn with_mode(self, v: u32) -> Core
-        ensures { λ r. ⌜ r ≡ withMode self v ⌝ }
-    {
-        let flags = self.flags;
-        let pending = self.pending;
-        let activity = self.activity;
-        Core {
-            bank: self.bank,
-            flags: flags,
-            pc: self.pc,
-            pending: pending,
-            remainder: self.remainder,
-            mode: v % 2,
-            accumulator: self.accumulator,
-            activity: activity,
-        }
-    }
-
-    // After a write of v to the control register.
-    pub fn with_control(self, v: u32) -> Core
-        ensures { λ r. ⌜ r ≡ withControl self v ⌝ }
-    {
-        let flags = self.flags;
-        let pending = self.pending;
-        let activity = self.activity;
-        Core {
-            bank: self.bank,
-            flags: flags,
-            pc: self.pc,
-            pending: pending,
+            waiting: waiting(p),
+            target: target(p),
             remainder: self.remainder,
             mode: self.mode,
             accumulator: self.accumulator,
-            activity: activity_after(v, activity),
         }
-    }
-
-    // After a write of v to the flag register.
-    pub fn with_flag_register(self, v: u32) -> Core
-        ensures { λ r. ⌜ r ≡ withFlagRegister self v ⌝ }
-    {
-        let pending = self.pending;
-        let activity = self.activity;
-        Core {
-            bank: v / 16384 % 2,
-            flags: Flags {
-                z: v % 2,
-                n: v / 4 % 2,
-                c: v / 2 % 2,
-            },
-            pc: self.pc,
-            pending: pending,
-            remainder: self.remainder,
-            mode: self.mode,
-            accumulator: self.accumulator,
-            activity: activity,
-        }
-    }
-
-    // What the flag register reads.
-    pub fn flag_register(self) -> u32
-        ensures { λ r. ⌜ r ≡ flagRegisterOf self ⌝ }
-    {
-        let f = self.flags;
-        f.z % 2 + 2 * (f.c % 2) + 4 * (f.n % 2) + 16384 * (self.bank % 2)
     }
 }

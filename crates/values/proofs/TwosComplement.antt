@@ -5,7 +5,7 @@ use mathlib.Core.Bool.{Bool, true, false}
 use Prim.Native.Nat.{ℕ, zero, suc, _+_, _-_, _*_, _%_, _<_, _≤_, _^_}
 use native.Mathlib.Omega.{arith}
 use native.Mathlib.Nat.{lt-of-le-of-lt, mul-le-mul}
-use borrow.Author.Tests.{ltb-true, le-ltb}
+use borrow.Author.Tests.{ltb-true, ltb-false, lt-ltb, le-ltb}
 use lib.Dec.{ltb}
 use lib.IntN.{ℤ, pos, negsuc, negℤ, natAbs, _-ℤ_, _*ℤ_}
 use lib.Signed.{ltZ, mag, shrZ, mag-shr, natAbs-le}
@@ -33,6 +33,23 @@ module _ (m : ℕ) (small : m < 2 ^ 31) where
   pub less-is : (w : Width) (x : ℕ) → 2 ^ hbits w ≤ x → suc m + x ≡ 2 ^ bits w → toZ w32 (ofZ w32 (negsuc 0 -ℤ toZ w32 m)) ≡ toZ w x
   less-is w x high e =
       rw (less, toZ-ofZ {w = w32} {z = negsuc m} (record { sfits = small }), le-ltb x (2 ^ hbits w) high) (ap negsuc (omega arith))
+
+-- 16 bits moved up by 2^15, wrapped, and moved down again are the signed number that they stand for
+module _ (k up : ℕ) (fits : k < 65536) (e : up ≡ (k + 32768) % 65536) where
+  halves : (t : Bool) → ltb k 32768 ≡ t → pos up -ℤ pos 32768 ≡ toZ w16 k
+  halves true h =
+      let s : k < 32768 = ltb-true k 32768 h in rw (h, le-ltb up 32768 (omega arith)) (ap pos (omega arith))
+  halves false h =
+      let s : 32768 ≤ k = ltb-false k 32768 h in rw (h, lt-ltb up 32768 (omega arith)) (ap negsuc (omega arith))
+
+  pub centred : toZ w32 up -ℤ toZ w32 32768 ≡ toZ w16 k
+  centred = rw (toZ-pos w32 {n = up} (omega arith)) (halves (ltb k 32768) refl)
+
+  pub centred-fits : SFits w32 (toZ w32 up -ℤ toZ w32 32768)
+  centred-fits = rw centred (sfits-widen {w = w16} {w′ = w32} tt (sfits-toZ {w = w16} {n = k} (record { fits = fits })))
+
+  pub centred-is : toZ w32 (ofZ w32 (toZ w32 up -ℤ toZ w32 32768)) ≡ toZ w16 k
+  centred-is = toZ-ofZ centred-fits ∙ centred
 
 -- what a test against 0 says of a number of 32 bits
 pub negative : (z : ℤ) → SFits w32 z → ltZ (toZ w32 (ofZ w32 z)) (pos 0) ≡ true → (n : ℕ) × (n < 2 ^ 31) × (z ≡ negsuc n)

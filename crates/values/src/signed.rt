@@ -24,16 +24,11 @@ pub fn unsigned(v: i32) -> u32
     }
 }
 
-// The signed number of the low 16 bits.
+// The signed number of the low 16 bits. Moved up by 2^15 and down again, it has no branch.
 pub fn signed16(x: u32) -> i32
     ensures { λ r. ⌜ r ≡ signed16Of x ⌝ }
 {
-    let k = x % 65536;
-    if k < 32768 {
-        k as i32
-    } else {
-        -1 - (65535 - k) as i32
-    }
+    ((x % 65536 + 32768) % 65536) as i32 - 32768
 }
 
 // How far the signed number of x is from 0.

@@ -1,5 +1,6 @@
 // Many vectors, told by their number and a checksum of what came of them.
 use crate::tables::edge;
+use crate::tables::edges;
 use crate::tables::family;
 use alu::jump::taken;
 use class::Address;
@@ -56,12 +57,12 @@ fn effect(sum: u32, e: Effect) -> u32 {
         Effect::Immediate(d) => mix2(sum, 10, d),
         Effect::Counter(d) => mix2(sum, 11, d),
         Effect::Jump(c, t) => mix3(sum, 12, c, t),
-        Effect::Load(d, b, o) => mix4(sum, 13, d, b, o),
-        Effect::Store(b, o, v) => mix4(sum, 14, b, o, v),
+        Effect::Load(d, address) => mix3(sum, 13, d, address),
+        Effect::Store(address, v) => mix3(sum, 14, address, v),
     }
 }
 
-// The n-th vector of an opcode: two edge values, the source field the place of one of them, and C, the flags and the mode of one bit.
+// The n-th vector of an opcode: register i holds the i-th edge value, and C, the flags and the mode are of one bit.
 fn vector(op: u32, n: u32, sum: u32) -> u32 {
     let bit = n / 1024 % 2;
     let x = Operands {
@@ -74,7 +75,8 @@ fn vector(op: u32, n: u32, sum: u32) -> u32 {
         acc: edge(n % 31),
         mode: bit,
     };
-    effect(sum, effect_at(op, n / 32 % 32, n % 32, x))
+    let bank = edges();
+    effect(sum, effect_at(op, n / 32 % 32, n % 32, &bank, x))
 }
 
 fn address(sum: u32, a: Address) -> u32 {

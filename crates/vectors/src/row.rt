@@ -52,6 +52,7 @@ pub fn row(name: &[u8], word: u32, s: u32, d: u32, mode: u32) {
     };
     io::write_all(1, name);
     io::write_all(1, b":");
-    show(effect_at(word / 1024, word / 32 % 32, word % 32, x));
+    let bank = [0u32; 32];
+    show(effect_at(word / 1024, word / 32 % 32, word % 32, &bank, x));
     io::write_all(1, b"\n");
 }

@@ -112,3 +112,8 @@ pub fn family(op: u32) -> u32 {
 pub fn edge(i: u32) -> u32 {
     EDGES[(i % 32) as usize]
 }
+
+// The edge values, as a bank of registers.
+pub fn edges() -> [u32; 32] {
+    EDGES
+}

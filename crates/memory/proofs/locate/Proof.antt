@@ -1,8 +1,9 @@
--- `locate` meets its contract: its tests are the definition's.
+-- `locate` meets its contract: the offset tells the same tests.
 -- Assumes nothing.
 use borrow.Author.Needs.{needs}
-use mathlib.Core.Path.{_∙_}
-use borrow.Author.Tests.{eq-eqb, ne-eqb, lt-ltb, le-ltb}
+use mathlib.Core.Path.{_∙_, sym}
+use borrow.Author.Tests.{ne-eqb}
+use Rattle.memory.proofs.Offsets.{in-ram, in-registers}
 use Rattle.memory.proofs.locate.Statement.{statement}
 use Rattle.memory.proofs.locate.Tie as tie
 
@@ -10,15 +11,13 @@ returns : tie.Need-returns
 returns c = rw (ne-eqb _ _ (c .if1 .taken))
 
 returns-2 : tie.Need-returns-2
-returns-2 c = c .register-at .ensures ∙ rw (eq-eqb _ _ (c .before .before .if1 .left), lt-ltb _ _ (c .before .if2 .taken))
+returns-2 c =
+    let f = c .before .offset .ensures in sym (in-ram _ _ (f .0) (f .1) (c .before .before .if1 .left) (c .if2 .taken))
 
 returns-3 : tie.Need-returns-3
-returns-3 c = rw (eq-eqb _ _ (c .before .before .if1 .left), le-ltb _ _ (c .before .if2 .left), lt-ltb _ _ (c .if3 .taken))
-
-returns-4 : tie.Need-returns-4
-returns-4 c =
-    c .register-at2 .ensures
-    ∙ rw (eq-eqb _ _ (c .before .before .before .if1 .left), le-ltb _ _ (c .before .before .if2 .left), le-ltb _ _ (c .before .if3 .left))
+returns-3 c =
+    let f = c .before .before .offset .ensures in
+    c .register-at .ensures ∙ sym (in-registers _ _ (f .0) (f .1) (c .before .before .before .if1 .left) (c .before .if2 .left))
 
 pub locate-spec : {M : Type 1} → statement M
 locate-spec =
@@ -26,8 +25,7 @@ locate-spec =
     (tie.spec
     returns
     (λ c κs. search needs)
-    returns-2
     (λ c. search needs)
     (λ c κs. search needs)
-    returns-3
-    returns-4)
+    returns-2
+    returns-3)

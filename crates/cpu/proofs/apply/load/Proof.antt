@@ -16,7 +16,7 @@ returns : tie.Need-returns
 returns c = rw (c .long-at .ensures, ← c .before .before .before .before .locate .ensures, c .before .before .p .given .1)
 
 returns-2 : tie.Need-returns-2
-returns-2 c = rw (c .flag-register .ensures, ← c .before .before .before .locate .ensures, c .before .enum-told .given .1)
+returns-2 c = rw (c .flag-word .ensures, ← c .before .before .before .before .locate .ensures, c .before .before .enum-told .given .1)
 
 returns-3 : tie.Need-returns-3
 returns-3 c = rw (← c .before .before .locate .ensures, c .enum-told2 .given .1)

@@ -1,14 +1,20 @@
 -- `move_loaded` meets its contract, by what the load found.
 -- Assumes nothing.
 use borrow.Author.Needs.{needs}
+use Rattle.cpu.specs.Step.{changeOf}
 use Rattle.cpu.proofs.apply.move_loaded.Statement.{statement}
 use Rattle.cpu.proofs.apply.move_loaded.Tie as tie
 
 returns : tie.Need-returns
-returns c = rw (c .stay .ensures, ← c .before .before .before .before .load .ensures, c .before .before .l .given .1)
+unfolding changeOf
+returns c = rw (c .stay .ensures, ← c .before .before .before .load .ensures, c .before .enum-told .given .1)
 
 returns-2 : tie.Need-returns-2
-returns-2 c = rw (c .done .ensures, c .before .put .ensures, ← c .before .before .before .before .before .before .load .ensures, c .before .before .before .before .l2 .given .1)
+unfolding changeOf
+returns-2 c = rw (c .stay2 .ensures, ← c .before .before .before .load .ensures, c .before .enum-told2 .given .1)
+
+returns-3 : tie.Need-returns-3
+returns-3 c = rw (c .done .ensures, c .before .put .ensures, ← c .before .before .before .before .before .before .load .ensures, c .before .before .before .before .l .given .1)
 
 pub move-loaded-spec : {M : Type 1} → statement M
 move-loaded-spec =
@@ -19,6 +25,9 @@ move-loaded-spec =
     (λ c κs. search needs)
     (λ c. search needs)
     (λ c κs. search needs)
+    (λ c. search needs)
+    (λ c κs. search needs)
     (λ c κs. search needs)
     returns
-    returns-2)
+    returns-2
+    returns-3)

@@ -2,9 +2,11 @@
 -- Assumes nothing.
 use borrow.Author.Needs.{needs}
 use native.Mathlib.Omega.{arith}
-use mathlib.Core.Path.{_∙_, sym}
+use mathlib.Core.Path.{_∙_, sym, ap}
 use Rattle.memory.specs.Processor.{gpu}
 use Rattle.memory.proofs.Places.{ram-holds, gpu-sound}
+use Rattle.state.specs.declared.Activity.the-variants as A
+use Rattle.cpu.specs.Step.{changeOf, doneOf}
 use Rattle.cpu.proofs.apply.store.Statement.{statement}
 use Rattle.cpu.proofs.apply.store.Tie as tie
 
@@ -16,18 +18,20 @@ returns : tie.Need-returns
 returns c = rw (c .done .ensures, c .before .before .before .put-long .ensures, ← c .before .before .before .before .before .before .before .before .locate .ensures, c .before .before .before .before .before .before .p .given .1)
 
 returns-2 : tie.Need-returns-2
-returns-2 c = rw (c .done2 .ensures, c .before .with-flag-register .ensures, c .before .before .settle .ensures .0, c .before .before .settle .ensures .1, ← c .before .before .before .before .before .before .before .before .locate .ensures, c .before .before .before .before .before .before .enum-told .given .1)
+returns-2 c = rw (c .done2 .ensures ∙ ap doneOf (c .before .with-flag-register .ensures A.Running), c .before .before .settle .ensures .0, c .before .before .settle .ensures .1, ← c .before .before .before .before .before .before .before .before .locate .ensures, c .before .before .before .before .before .before .enum-told .given .1)
 
 returns-3 : tie.Need-returns-3
-returns-3 c = rw (c .done3 .ensures, c .before .with-control .ensures, ← c .before .before .before .before .locate .ensures, c .before .before .enum-told2 .given .1)
+returns-3 c = rw (c .control .ensures, ← c .before .before .before .locate .ensures, c .before .enum-told2 .given .1)
 
 returns-4 : tie.Need-returns-4
-returns-4 c = rw (c .done4 .ensures, c .before .with-mode .ensures, ← c .before .before .before .before .locate .ensures, c .before .before .enum-told3 .given .1)
+returns-4 c = rw (c .done3 .ensures ∙ ap doneOf (c .before .with-mode .ensures A.Running), ← c .before .before .before .before .locate .ensures, c .before .before .enum-told3 .given .1)
 
 returns-5 : tie.Need-returns-5
+unfolding changeOf
 returns-5 c = rw (c .stay .ensures, ← c .before .before .before .locate .ensures, c .before .enum-told4 .given .1)
 
 returns-6 : tie.Need-returns-6
+unfolding changeOf
 returns-6 c = rw (c .stay2 .ensures, ← c .before .before .before .locate .ensures, c .before .enum-told5 .given .1)
 
 pub store-spec : {M : Type 1} → statement M
@@ -43,7 +47,6 @@ store-spec =
     (λ c κs. search needs)
     (λ c κs. search needs)
     (λ c. search needs)
-    (λ c κs. search needs)
     (λ c κs. search needs)
     (λ c. search needs)
     (λ c κs. search needs)

@@ -10,7 +10,7 @@ returns : tie.Need-returns
 unfolding executeOf
 returns c =
     let e = c .before .before .before .before .before .before in
-    c .before .before .apply .ensures ∙ rw (e .effect-at .ensures, e .before .operands-of .ensures)
+    c .before .before .apply .ensures ∙ rw (e .effect-at .ensures, e .before .before .operands-of .ensures)
 
 pub execute-spec : {M : Type 1} → statement M
 execute-spec =

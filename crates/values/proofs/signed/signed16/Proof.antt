@@ -1,25 +1,18 @@
--- `signed16` meets its contract, as `signed` does at 32 bits.
+-- `signed16` meets its contract: the 16 bits moved up by half, wrapped, and moved down again.
 -- Assumes nothing.
 use borrow.Author.Needs.{needs}
-use Prim.Native.Nat.{_-_, _%_}
 use native.Mathlib.Omega.{arith}
-use mathlib.Core.Path.{_∙_, sym}
-use mir.Syntax.{w16, w32}
-use mir.Facts.{toZ-pos}
-use Rattle.values.proofs.TwosComplement.{less-fits, less-is}
+use mathlib.Core.Path.{refl}
+use Prim.Native.Nat.{_%_}
+use Rattle.values.proofs.TwosComplement.{centred-fits, centred-is}
 use Rattle.values.proofs.signed.signed16.Statement.{statement}
 use Rattle.values.proofs.signed.signed16.Tie as tie
 
-sub-result-2 : tie.Need-sub-result-2
-sub-result-2 c = less-fits (65535 - c .before .args .x % 65536) (omega arith)
+sub-result : tie.Need-sub-result
+sub-result c = centred-fits (c .args .x % 65536) _ (omega arith) refl
 
 returns : tie.Need-returns
-returns c = toZ-pos w32 (omega arith) ∙ sym (toZ-pos w16 (c .if1 .taken))
-
-returns-2 : tie.Need-returns-2
-returns-2 c =
-    let k = c .before .args .x % 65536 in
-    less-is (65535 - k) (omega arith) w16 k (c .if1 .left) (omega arith)
+returns c = centred-is (c .args .x % 65536) _ (omega arith) refl
 
 pub signed16-spec : {M : Type 1} → statement M
 signed16-spec =
@@ -27,7 +20,5 @@ signed16-spec =
     (tie.spec
     (λ c. search needs)
     (λ c. search needs)
-    (λ c. search needs)
-    sub-result-2
-    returns
-    returns-2)
+    sub-result
+    returns)

@@ -1,11 +1,11 @@
 -- `skipped` meets its contract.
 -- Assumes nothing.
 use borrow.Author.Needs.{needs}
-use Rattle.state.proofs.Core.skipped.Statement.{statement}
-use Rattle.state.proofs.Core.skipped.Tie as tie
+use Rattle.state.proofs.live.Live.skipped.Statement.{statement}
+use Rattle.state.proofs.live.Live.skipped.Tie as tie
 
 returns : tie.Need-returns
-returns c = rw (c .wrapping-add-u32 .ensures)
+returns c a = rw (c .wrapping-add-u32 .ensures)
 
 pub skipped-spec : {M : Type 1} → statement M
 skipped-spec =

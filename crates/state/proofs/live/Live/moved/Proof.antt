@@ -1,11 +1,11 @@
 -- `moved` meets its contract.
 -- Assumes nothing.
 use borrow.Author.Needs.{needs}
-use Rattle.state.proofs.Core.moved.Statement.{statement}
-use Rattle.state.proofs.Core.moved.Tie as tie
+use Rattle.state.proofs.live.Live.moved.Statement.{statement}
+use Rattle.state.proofs.live.Live.moved.Tie as tie
 
 returns : tie.Need-returns
-returns c = rw (c .counter .ensures)
+returns c a = rw (c .counter .ensures)
 
 pub moved-spec : {M : Type 1} → statement M
 moved-spec =

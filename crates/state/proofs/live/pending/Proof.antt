@@ -1,8 +1,8 @@
--- `activity_after` meets its contract.
+-- `pending` meets its contract.
 -- Assumes nothing.
 use borrow.Author.Tests.{eq-eqb, ne-eqb}
-use Rattle.state.proofs.activity_after.Statement.{statement}
-use Rattle.state.proofs.activity_after.Tie as tie
+use Rattle.state.proofs.live.pending.Statement.{statement}
+use Rattle.state.proofs.live.pending.Tie as tie
 
 returns : tie.Need-returns
 returns c = rw (eq-eqb _ _ (c .if1 .taken))
@@ -10,8 +10,8 @@ returns c = rw (eq-eqb _ _ (c .if1 .taken))
 returns-2 : tie.Need-returns-2
 returns-2 c = rw (ne-eqb _ _ (c .if1 .left))
 
-pub activity-after-spec : {M : Type 1} → statement M
-activity-after-spec =
+pub pending-spec : {M : Type 1} → statement M
+pending-spec =
     tie.close
     (tie.spec
     returns

@@ -1,0 +1,77 @@
+-- `cycle` meets its contract. The loop's invariant: what is left of the run, from here, is the whole run.
+-- Assumes nothing.
+use borrow.Author.Needs.{needs}
+use borrow.Author.Tests.{not-true, not-false}
+use native.Mathlib.Omega.{arith}
+use mathlib.Core.Path.{_≡_, refl, sym, _∙_}
+use Prim.Native.Nat.{_+_, _-_, _≤_}
+use lib.ListN.{length}
+use Rattle.memory.specs.Processor.{gpu}
+use Rattle.cpu.specs.Step.{viewFrom, running}
+use Rattle.machine.specs.Run.{runsOf}
+use Rattle.machine.proofs.Runs.{spent, continues, leaves}
+use Rattle.machine.proofs.cycle.Statement.{statement}
+use Rattle.machine.proofs.cycle.Tie as tie
+
+abbrev Inv-loop : tie.InvT-loop
+Inv-loop a₀ o₀ ram₀ budget k₀ rest₀ a o ram k rest =
+    (rest ≤ budget) × (length ram ≡ 4096) × (runsOf gpu rest (budget - rest) ram (viewFrom a o (running k)) ≡ runsOf gpu budget 0 ram₀ (viewFrom a₀ o₀ (running k₀)))
+
+abbrev μ-loop : tie.MeasureT-loop
+μ-loop a₀ o₀ ram₀ budget k₀ rest₀ a o ram k rest = rest
+
+loop-holds : tie.Need-loop-holds Inv-loop μ-loop
+loop-holds c =
+    let b = c .before .args .budget in
+    let e : b - b ≡ 0 = omega arith in
+    (omega arith, c .before .pre, rw e)
+
+returns : tie.Need-returns Inv-loop μ-loop
+returns c =
+    let t = c .before in
+    let d = t .before .before .before .before .before in
+    let l = d .before .before .before .before in
+    rw (c .left .ensures)
+    (leaves _ _ _ _ _ _ _ _ _ (l .loop-test .taken) (search needs) (sym (t .before .completed .ensures) ∙ not-true _ (t .if1 .taken)) (d .advance .ensures)
+    ∙ l .before .loop .inv .2)
+
+loop-again : tie.Need-loop-again Inv-loop μ-loop
+loop-again c =
+    let d = c .before .before .before .before .before in
+    let l = d .before .before .before .before in
+    let i = l .before .loop in
+    let b = l .before .before .before .args .budget in
+    let e : b - (i .rest - 1) ≡ b - i .rest + 1 = omega (arith, l .loop-test .taken, i .inv .0) in (
+      omega (arith, i .inv .0),
+      search needs,
+      rw e
+          (sym (continues _ _ _ _ _ _ _ _ _ (l .loop-test .taken) (d .advance .ensures) (sym (c .before .completed .ensures) ∙ not-false _ (c .if1 .left)))
+          ∙ i .inv .2),
+    )
+
+returns-2 : tie.Need-returns-2 Inv-loop μ-loop
+returns-2 c =
+    let i = c .before .before .loop in
+    let b = c .before .before .before .before .args .budget in
+    let e : b - i .rest ≡ b = omega (arith, c .before .loop-test .left) in
+    rw (c .core .ensures) (sym (spent _ _ _ _ _ (c .before .loop-test .left) _ e) ∙ i .inv .2)
+
+pub cycle-spec : {M : Type 1} → statement M
+cycle-spec =
+    tie.close
+    (tie.spec
+    Inv-loop
+    μ-loop
+    loop-holds
+    (λ c κs. search needs)
+    (λ c κs. search needs)
+    (λ c. search needs)
+    (λ c κs. search needs)
+    (λ c. search needs)
+    returns
+    (λ c. search needs)
+    (λ c. search needs)
+    loop-again
+    (λ c κs. search needs)
+    (λ c. search needs)
+    returns-2)
