@@ -1,0 +1,6 @@
+pub mod Verdicts
+pub mod Reading
+pub mod Known
+pub mod Rules
+pub mod Check
+pub mod Safety
