@@ -50,16 +50,18 @@ quick-fits q = go (eqb (q % 32) 0)
     go true = omega arith
     go false = omega arith
 
-abbrev Each : (Instr → Type 0) → List Instr → Type 0
+-- something that holds of each instruction of a list
+abbrev pub Each : (Instr → Type 0) → List Instr → Type 0
 Each Q [] = Unit {0}
 Each Q (i ∷ is) = Q i × Each Q is
 
 infixr 4 _⊗_
-_⊗_ : {A B : Type 0} → A → B → A × B
+pub _⊗_ : {A B : Type 0} → A → B → A × B
 a ⊗ b = (a, b)
 
 module _ (Q : Instr → Type 0) (op : ℕ) (none : Q Nop) where
-  found : (is : List Instr) → Each Q is → Q (among op is)
+  -- holds of the one that has the opcode
+  pub found : (is : List Instr) → Each Q is → Q (among op is)
   found [] h = none
   found (i ∷ is) h = go (found is (h .1)) (eqb (opcodeIn (formOf i)) op)
     where
