@@ -34,9 +34,9 @@ module _ (P : Processor) where
   pub lengths : (r c b n : ℕ) (ram : List ℕ) (v : View) → Lengths r c c ram v → Lengths r c c (runsOf P b n ram v .ram) (runsOf P b n ram v .view)
   lengths r c = kept (λ ram v. Lengths r c c ram v) (λ ram v h. advanced P r c ram v h)
 
-  -- bytes stay bytes, registers stay words of 32 bits, and flags stay bits
-  pub widths : (b n : ℕ) (ram : List ℕ) (v : View) → Widths ram v → Widths (runsOf P b n ram v .ram) (runsOf P b n ram v .view)
-  widths = kept (λ ram v. Widths ram v) (λ ram v h. W.advanced P ram v h)
+  -- bytes stay bytes, registers stay words of 32 bits, and flags stay below a bound: bits for 2
+  pub widths : (m : ℕ) → 2 ≤ m → (b n : ℕ) (ram : List ℕ) (v : View) → Widths m ram v → Widths m (runsOf P b n ram v .ram) (runsOf P b n ram v .view)
+  widths m two = kept (λ ram v. Widths m ram v) (λ ram v h. W.advanced m two P ram v h)
 
   -- a run of a and then b is a run of a + b, where the first is not cut short
   pub runs-add : (a b n : ℕ) (ram : List ℕ) (v : View) → runsOf P a n ram v .steps ≡ n + a → runsOf P (a + b) n ram v ≡ runsOf P b (n + a) (runsOf P a n ram v .ram) (runsOf P a n ram v .view)

@@ -6,7 +6,8 @@ use mathlib.Core.List.{List}
 use lib.ListN.{length, getD, take}
 use Rattle.memory.specs.Processor.{Processor}
 use Rattle.state.specs.Answers.{numberOf}
-use Rattle.state.specs.declared.Pending.the-variants.{None}
+use Rattle.state.specs.declared.Pending.{Pending}
+use Rattle.state.specs.declared.Pending.the-variants.{None, At}
 use Rattle.state.specs.declared.Activity.the-variants as A
 use Rattle.machine.specs.declared.State.{State}
 use Rattle.machine.specs.Run.{budgetLimit, runOf, stepOf}
@@ -15,7 +16,13 @@ use Rattle.rules.specs.declared.Verdict.the-variants.{Admitted, RamLengt
 use Rattle.rules.specs.Check.{checkOf}
 use Rattle.rules.specs.Rules.{IsStart, Rule1, Rule2, Rule3, Rule4, Rule5, Rule6, Everywhere, Rules, Lowest, LowestKnown}
 
--- What every value of the program's types has: bytes below 256, and 32 registers of 32 bits in each bank.
+-- What is asked of a processor's constants beside `Sound`: the built registers lie below local RAM.
+pub record Apart (P : Processor) : Type 0 where
+  pub flags-below : P .flags < P .base
+  pub control-below : P .control < P .base
+  pub divide-below : P .divide < P .base
+
+-- What every value of the program's types has: bytes below 256, 32 registers in each bank, and numbers of 32 bits.
 pub record IsRam (ram : List ℕ) : Type 0 where
   pub bytes : (i : ℕ) → getD ram i 0 < 256
 
@@ -23,9 +30,22 @@ pub record IsBank (bank : List ℕ) : Type 0 where
   pub registers : length bank ≡ 32
   pub words : (i : ℕ) → getD bank i 0 < 2 ^ 32
 
+abbrev pub IsTargetWord : Pending → Type 0
+IsTargetWord None = Unit {0}
+IsTargetWord (At t) = t < 2 ^ 32
+
 pub record IsState (s : State) : Type 0 where
   pub first-bank : IsBank (s .bank0)
   pub second-bank : IsBank (s .bank1)
+  pub bank-word : s .core .bank < 2 ^ 32
+  pub z-word : s .core .flags .z < 2 ^ 32
+  pub n-word : s .core .flags .n < 2 ^ 32
+  pub c-word : s .core .flags .c < 2 ^ 32
+  pub pc-word : s .core .pc < 2 ^ 32
+  pub target-word : IsTargetWord (s .core .pending)
+  pub remainder-word : s .core .remainder < 2 ^ 32
+  pub mode-word : s .core .mode < 2 ^ 32
+  pub accumulator-word : s .core .accumulator < 2 ^ 32
 
 -- "any state that is running, with the counter at the first instruction and no jump pending"
 pub record Begins (P : Processor) (s : State) : Type 0 where

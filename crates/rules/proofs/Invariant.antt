@@ -1,0 +1,149 @@
+-- What holds before each step of an admitted program, and how the counter's move keeps it.
+-- Assumes nothing.
+use Prim.Native.Nat.{ℕ, _+_, _-_, _%_, _^_, _≤_, _<_}
+use mathlib.Core.Path.{_≡_, refl, sym, subst, _∙_, ap}
+use mathlib.Core.Bool.{Bool, true, false, cond}
+use mathlib.Core.List.{List}
+use native.Mathlib.Omega.{arith}
+use lib.Dec.{eqb}
+use lib.ListN.{length, getD, take}
+use borrow.Author.Tests.{eqb-true, eqb-false}
+use Rattle.alu.specs.Jump.{jrTargetOf}
+use Rattle.isa.specs.Fields.{signedFieldOf}
+use Rattle.class.specs.declared.Class.{Class}
+use Rattle.memory.specs.Processor.{Processor, Sound}
+use Rattle.state.specs.State.{counterOf, movedOf}
+use Rattle.state.specs.declared.Core.{Core}
+use Rattle.state.specs.declared.Pending.{Pending}
+use Rattle.state.specs.declared.Pending.the-variants.{None, At}
+use Rattle.cpu.specs.Step.{View, viewFrom}
+use Rattle.rules.specs.declared.Range.{Range}
+use Rattle.rules.specs.Reading.{Item, unbuilt, built, Shape, other, movei, movepc, jr, jump, load, store, shapeIn, shapeOf, bytesOf, endOf, itemAt, shapeAt, after, Reads, first, next}
+use Rattle.rules.specs.Known.{unknown, transfer, transferOf}
+use Rattle.rules.specs.Check.{breaksSlot, always, isTarget, learn, before}
+use Rattle.rules.specs.Rules.{IsInstruction, IsStart, Leads, by-jr, by-jump, IsTarget, Knows, Rules}
+use Rattle.rules.proofs.Booleans.{by, no-way}
+use Rattle.rules.proofs.Scan.{reads-too}
+use Rattle.rules.proofs.Reflect.{target-is}
+use Rattle.rules.proofs.Ranges.{Fits}
+
+-- what an instruction that was just run left in the active bank: a MOVEI's register holds its value
+abbrev pub Left : Shape → List ℕ → Type 0
+Left other a = Unit {0}
+Left (movei d v) a = getD a d 0 ≡ v
+Left movepc a = Unit {0}
+Left (jr n c) a = Unit {0}
+Left (jump r c) a = Unit {0}
+Left (load m) a = Unit {0}
+Left (store m) a = Unit {0}
+
+-- control fell through from p: its value stands, and a jump is pending where p always jumps
+pub record Fell (p : Shape) (v : View) : Type 0 where
+  pub value : Left p (v .active)
+  pub pending : always p ≡ true → v .core .pending ≡ None → ⊥
+
+module _ (P : Processor) (code : List ℕ) where
+  -- how control came to the counter
+  pub data Came (p : Item) (v : View) : Type 0 where
+    by-target : IsTarget P code (v .core .pc) → Came p v
+    by-fall : Fell (shapeOf p) v → Came p v
+
+  pub record Inv (ram : List ℕ) (v : View) : Type 0 where
+    pub same-code : take (length code) ram ≡ code
+    pub previous : Item
+    pub is-instruction : IsInstruction P code (v .core .pc) previous
+    pub known : List Range
+    pub knows : Knows P code (v .core .pc) known
+    pub fits : Fits known (v .active)
+    pub came : Came previous v
+    pub slot : (t : ℕ) → v .core .pending ≡ At t → IsTarget P code t × (breaksSlot (shapeAt P code (v .core .pc)) ≡ false)
+
+-- nothing is pending, or something is
+pending-none : {A : Type 0} {t : ℕ} {p : Pending} → p ≡ None → p ≡ At t → A
+pending-none e h = let z : _≡_ {A = ℕ} 0 1 = cc in absurd (omega arith)
+
+module _ (P : Processor) (code : List ℕ) (R : Rules P code) where
+  -- a target is an instruction start
+  target-start : (t : ℕ) → IsTarget P code t → IsStart P code t
+  target-start t g = go (g .leads)
+    where
+      go : Leads P code (g .from) (g .previous) t → IsStart P code t
+      go (by-jr n c e q) = subst (IsStart P code) q (R .rule2 (g .from) (g .previous) (g .is-instruction) n c e)
+      go (by-jump r c e q) =
+          let j = R .rule3 (g .from) (g .previous) (g .is-instruction) r c e .0 in
+          let same : j .0 ≡ t = cc (j .1, q) in
+          subst (IsStart P code) same (j .2)
+
+  -- at a target nothing is known
+  known-unknown : {t : ℕ} {k : List Range} → Knows P code t k → IsTarget P code t → k ≡ unknown
+  unfolding learn
+  known-unknown first g = refl
+  known-unknown (next {a} r l) g = rw (target-is P code (after P code a) g)
+
+  -- the counter goes to a pending target
+  land : (t : ℕ) (ram : List ℕ) (v : View) → take (length code) ram ≡ code → Fits unknown (v .active) → IsTarget P code t → v .core .pc ≡ t → v .core .pending ≡ None → Inv P code ram v
+  land t ram v same wide g e none =
+      let s = target-start t g in
+      let q = reads-too unknown (learn P code) (s .is-instruction .read) in
+      record {
+        same-code = same;
+        previous = s .previous;
+        is-instruction = subst (λ a. IsInstruction P code a (s .previous)) (sym e) (s .is-instruction);
+        known = q .0;
+        knows = subst (λ a. Knows P code a (q .0)) (sym e) (q .1);
+        fits = subst (λ k. Fits k (v .active)) (sym (known-unknown (q .1) g)) wide;
+        came = by-target (subst (IsTarget P code) (sym e) g);
+        slot = λ u h. pending-none none h;
+      }
+
+  -- the counter goes on to the instruction after a
+  pub fall : (a : ℕ) (p : Item) (k : List Range) → IsInstruction P code a p → Knows P code a k → after P code a < endOf P code → (ram : List ℕ) (v : View) → take (length code) ram ≡ code → Fits unknown (v .active) → v .core .pc ≡ after P code a → Fits (transferOf P (itemAt P code a) k) (v .active) → Fell (shapeAt P code a) v → ((t : ℕ) → v .core .pending ≡ At t → IsTarget P code t × (breaksSlot (shapeAt P code (after P code a)) ≡ false)) → Inv P code ram v
+  unfolding learn
+  fall a p k i q l ram v same wide e f fell slot =
+      record {
+        same-code = same;
+        previous = itemAt P code a;
+        is-instruction = subst (λ b. IsInstruction P code b (itemAt P code a)) (sym e) (record { read = next (i .read) (i .inside); inside = l });
+        known = learn P code a k;
+        knows = subst (λ b. Knows P code b (learn P code a k)) (sym e) (next q (i .inside));
+        fits = go (isTarget P code (after P code a));
+        came = by-fall fell;
+        slot = λ t h. subst (λ b. IsTarget P code t × (breaksSlot (shapeAt P code b) ≡ false)) (sym e) (slot t h);
+      }
+    where
+      go : (t : Bool) → Fits (cond t unknown (transferOf P (itemAt P code a) k)) (v .active)
+      go true = wide
+      go false = f
+
+  -- at the last instruction a jump is pending
+  pub not-last : {ram : List ℕ} {v : View} → Inv P code ram v → v .core .pending ≡ None → after P code (v .core .pc) < endOf P code
+  not-last {ram} {v} inv none =
+      by (eqb (after P code (v .core .pc)) (endOf P code))
+      (λ e. absurd (go (R .rule5 (v .core .pc) (inv .previous) (inv .is-instruction) (eqb-true (after P code (v .core .pc)) (endOf P code) e)) (inv .came)))
+      (λ e. omega (arith, eqb-false (after P code (v .core .pc)) (endOf P code) e, R .rule1 (v .core .pc) (inv .previous) (inv .is-instruction) .1))
+    where
+      go : (always (shapeOf (inv .previous)) ≡ true) × (IsTarget P code (v .core .pc) → ⊥) → Came P code (inv .previous) v → ⊥
+      go q (by-target g) = q .1 g
+      go q (by-fall f) = f .pending (q .0) none
+
+  module _ (sound : Sound P) (small : length code ≤ P .size) where
+    -- a whole instruction of one word, from a state in which registers, flags or RAM have changed already
+    pub arrive : {ram : List ℕ} {v : View} (inv : Inv P code ram v) (c : Class) (n : ℕ) → itemAt P code (v .core .pc) ≡ built c n → bytesOf (shapeIn c n) ≡ 2 → always (shapeIn c n) ≡ false → (k : Core) (a o ram′ : List ℕ) → take (length code) ram′ ≡ code → k .pc ≡ v .core .pc → k .pending ≡ v .core .pending → Left (shapeIn c n) a → Fits (transfer P c n (inv .known)) a → Fits unknown a → Inv P code ram′ (viewFrom a o (movedOf k None))
+    unfolding transferOf
+    arrive {ram} {v} inv c n item two never k a o ram′ same ep eq left f wide = go (v .core .pending) refl
+      where
+        go : (p : Pending) → v .core .pending ≡ p → Inv P code ram′ (viewFrom a o (movedOf k None))
+        go (At t) e =
+            land t ram′ (viewFrom a o (movedOf k None)) same wide (inv .slot t e .0) (ap (λ p. counterOf p (k .pc)) (eq ∙ e)) refl
+        go None e =
+            let l = not-last inv e in
+            let b : after P code (v .core .pc) ≡ v .core .pc + 2 = ap (λ i. v .core .pc + bytesOf (shapeOf i)) item ∙ ap (λ m. v .core .pc + m) two in
+            let counter : (k .pc + 2) % 2 ^ 32 ≡ after P code (v .core .pc) = omega (arith, ep, b, l, sound .top, small) in
+            fall (v .core .pc) (inv .previous) (inv .known) (inv .is-instruction) (inv .knows) l ram′ (viewFrom a o (movedOf k None)) same wide
+            (ap (λ p. counterOf p (k .pc)) (eq ∙ e) ∙ counter)
+            (subst (λ i. Fits (transferOf P i (inv .known)) a) (sym item) f)
+            (record {
+              value = subst (λ i. Left (shapeOf i) a) (sym item) left;
+              pending = λ h. no-way (sym never ∙ ap (λ i. always (shapeOf i)) (sym item) ∙ h);
+            })
+            (λ t h. pending-none refl h)

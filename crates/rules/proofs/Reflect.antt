@@ -1,0 +1,281 @@
+-- The computed tests of the check and the six rules as statements say the same of an instruction, both ways.
+-- Assumes nothing.
+use Prim.Native.Nat.{ℕ, _+_}
+use mathlib.Core.Path.{_≡_, refl, sym, subst, _∙_, ap}
+use mathlib.Core.Bool.{Bool, true, false, not, _&&_, _||_}
+use mathlib.Core.List.{List}
+use lib.Dec.{eqb, ltb, leb}
+use borrow.Author.Tests.{eqb-true, eq-eqb, ltb-true, lt-ltb, leb-true, le-leb, not-false}
+use Rattle.class.specs.declared.Address.{Address}
+use Rattle.isa.specs.Fields.{signedFieldOf}
+use Rattle.alu.specs.Jump.{jrTargetOf}
+use Rattle.memory.specs.Processor.{Processor}
+use Rattle.rules.specs.declared.Range.{Range}
+use Rattle.rules.specs.Reading.{Item, unbuilt, built, Shape, other, movei, movepc, jr, jump, load, store, shapeOf, endOf, itemAt, shapeAt, after}
+use Rattle.rules.specs.Known.{addressRange, isExactly}
+use Rattle.rules.specs.Check.{isBuilt, jumps, breaksSlot, always, holds, leads, within, before, isStart, isTarget, jrOk, jumpOk, accessOk, ok1, ok2, ok3, ok4, ok5, ok6}
+use Rattle.rules.specs.Rules.{IsStart, Leads, by-jr, by-jump, IsTarget, Place, in-ram, at-flags, at-control, at-divide, Reaches, Rule1, Rule2, Rule3, Rule4, Rule5, Rule6}
+use Rattle.rules.proofs.Booleans.{by, no-way, and-l, and-r, and-i, or-cases, or-l, or-r, not-i, not-of}
+use Rattle.rules.proofs.Scan.{finds, is-found}
+
+not-f : {a : Bool} → a ≡ true → not a ≡ false
+not-f {a} e = rw e
+
+built-is : (i : Item) → (i ≡ unbuilt → ⊥) → isBuilt i ≡ true
+built-is unbuilt h = absurd (h refl)
+built-is (built c v) h = refl
+
+holds-of : (p : Shape) (r : ℕ) (f : ℕ → Bool) → holds p r f ≡ true → (v : ℕ) × (p ≡ movei r v) × (f v ≡ true)
+holds-of other r f e = no-way e
+holds-of (movei d v) r f e =
+    (v, ap (λ x. movei x v) (eqb-true d r (and-l (eqb d r) (f v) e)), and-r (eqb d r) (f v) e)
+holds-of movepc r f e = no-way e
+holds-of (jr n c) r f e = no-way e
+holds-of (jump s c) r f e = no-way e
+holds-of (load m) r f e = no-way e
+holds-of (store m) r f e = no-way e
+
+holds-is : {p : Shape} (r v : ℕ) (f : ℕ → Bool) → p ≡ movei r v → f v ≡ true → holds p r f ≡ true
+holds-is r v f q e = subst (λ p. holds p r f ≡ true) (sym q) (and-i (eq-eqb r r refl) e)
+
+exactly-of : (x : Range) (n : ℕ) → isExactly x n ≡ true → (x .low ≡ n) × (x .high ≡ n)
+exactly-of x n e = (
+  eqb-true (x .low) n (and-l (eqb (x .low) n) (eqb (x .high) n) e),
+  eqb-true (x .high) n (and-r (eqb (x .low) n) (eqb (x .high) n) e),
+)
+
+exactly-is : (x : Range) (n : ℕ) → x .low ≡ n → x .high ≡ n → isExactly x n ≡ true
+exactly-is x n e f = and-i (eq-eqb (x .low) n e) (eq-eqb (x .high) n f)
+
+module _ (P : Processor) (code : List ℕ) where
+  -- an access
+  pub reaches-of : (from : ℕ) (x : Range) → within P from x ≡ true → Reaches P code from x
+  reaches-of from x e =
+      let inside : Bool = leb from (x .low) && ltb (x .high) (P .base + P .size) in
+      let others : Bool = isExactly x (P .control) || isExactly x (P .divide) in
+      let registers : Bool = isExactly x (P .flags) || others in
+      record {
+        is-aligned = and-l (x .aligned) (inside || registers) e;
+        place =
+            or-cases inside registers (and-r (x .aligned) (inside || registers) e)
+            (λ h. in-ram
+            (leb-true from (x .low) (and-l (leb from (x .low)) (ltb (x .high) (P .base + P .size)) h))
+            (ltb-true (x .high) (P .base + P .size) (and-r (leb from (x .low)) (ltb (x .high) (P .base + P .size)) h)))
+            (λ h. or-cases (isExactly x (P .flags)) others h
+            (λ g. let q = exactly-of x (P .flags) g in at-flags (q .0) (q .1))
+            (λ g. or-cases (isExactly x (P .control)) (isExactly x (P .divide)) g
+            (λ f. let q = exactly-of x (P .control) f in at-control (q .0) (q .1))
+            (λ f. let q = exactly-of x (P .divide) f in at-divide (q .0) (q .1))));
+      }
+
+  place-is : (from : ℕ) (x : Range) → Place P code from x
+      → ((leb from (x .low) && ltb (x .high) (P .base + P .size)) || (isExactly x (P .flags) || (isExactly x (P .control) || isExactly x (P .divide)))) ≡ true
+  place-is from x (in-ram l h) =
+      or-l (isExactly x (P .flags) || (isExactly x (P .control) || isExactly x (P .divide)))
+      (and-i (le-leb from (x .low) l) (lt-ltb (x .high) (P .base + P .size) h))
+  place-is from x (at-flags l h) =
+      or-r (leb from (x .low) && ltb (x .high) (P .base + P .size))
+      (or-l (isExactly x (P .control) || isExactly x (P .divide)) (exactly-is x (P .flags) l h))
+  place-is from x (at-control l h) =
+      or-r (leb from (x .low) && ltb (x .high) (P .base + P .size))
+      (or-r (isExactly x (P .flags)) (or-l (isExactly x (P .divide)) (exactly-is x (P .control) l h)))
+  place-is from x (at-divide l h) =
+      or-r (leb from (x .low) && ltb (x .high) (P .base + P .size))
+      (or-r (isExactly x (P .flags)) (or-r (isExactly x (P .control)) (exactly-is x (P .divide) l h)))
+
+  pub reaches-is : (from : ℕ) (x : Range) → Reaches P code from x → within P from x ≡ true
+  reaches-is from x r = and-i (r .is-aligned) (place-is from x (r .place))
+
+  -- an instruction start
+  pub start-of : (t : ℕ) → isStart P code t ≡ true → IsStart P code t
+  unfolding isStart
+  start-of t e =
+      let f = finds P code Item unbuilt (before P code) (λ a p. not (eqb a t)) e in
+      let same : f .at ≡ t = eqb-true (f .at) t (not-false (eqb (f .at) t) (f .fails)) in
+      subst (IsStart P code) same
+      (record { previous = f .carried; is-instruction = record { read = f .read; inside = f .inside } })
+
+  pub start-is : (t : ℕ) → IsStart P code t → isStart P code t ≡ true
+  unfolding isStart
+  start-is t s =
+      is-found P code Item unbuilt (before P code) (λ a p. not (eqb a t))
+      (record {
+        at = t;
+        carried = s .previous;
+        read = s .is-instruction .read;
+        inside = s .is-instruction .inside;
+        fails = not-f (eq-eqb t t refl);
+      })
+
+  -- a jump and its target
+  leads-by : (a : ℕ) (p : Item) (t : ℕ) (s : Shape) → shapeAt P code a ≡ s → leads a (shapeOf p) s t ≡ true → Leads P code a p t
+  leads-by a p t other q e = no-way e
+  leads-by a p t (movei d v) q e = no-way e
+  leads-by a p t movepc q e = no-way e
+  leads-by a p t (jr n c) q e = by-jr n c q (eqb-true (jrTargetOf a (signedFieldOf n)) t e)
+  leads-by a p t (jump r c) q e =
+      let h = holds-of (shapeOf p) r (λ v. eqb v t) e in
+      by-jump r c q (h .1 ∙ ap (movei r) (eqb-true (h .0) t (h .2)))
+  leads-by a p t (load m) q e = no-way e
+  leads-by a p t (store m) q e = no-way e
+
+  pub leads-of : (a : ℕ) (p : Item) (t : ℕ) → leads a (shapeOf p) (shapeAt P code a) t ≡ true → Leads P code a p t
+  leads-of a p t e = leads-by a p t (shapeAt P code a) refl e
+
+  pub leads-is : (a : ℕ) (p : Item) (t : ℕ) → Leads P code a p t → leads a (shapeOf p) (shapeAt P code a) t ≡ true
+  leads-is a p t (by-jr n c q e) =
+      subst (λ s. leads a (shapeOf p) s t ≡ true) (sym q) (eq-eqb (jrTargetOf a (signedFieldOf n)) t e)
+  leads-is a p t (by-jump r c q e) =
+      subst (λ s. leads a (shapeOf p) s t ≡ true) (sym q) (holds-is r t (λ v. eqb v t) e (eq-eqb t t refl))
+
+  pub target-of : (t : ℕ) → isTarget P code t ≡ true → IsTarget P code t
+  unfolding isTarget
+  target-of t e =
+      let f = finds P code Item unbuilt (before P code) (λ a p. not (leads a (shapeOf p) (shapeAt P code a) t)) e in
+      record {
+        from = f .at;
+        previous = f .carried;
+        is-instruction = record { read = f .read; inside = f .inside };
+        leads =
+            leads-of (f .at) (f .carried) t
+            (not-false (leads (f .at) (shapeOf (f .carried)) (shapeAt P code (f .at)) t) (f .fails));
+      }
+
+  pub target-is : (t : ℕ) → IsTarget P code t → isTarget P code t ≡ true
+  unfolding isTarget
+  target-is t s =
+      is-found P code Item unbuilt (before P code) (λ a p. not (leads a (shapeOf p) (shapeAt P code a) t))
+      (record {
+        at = s .from;
+        carried = s .previous;
+        read = s .is-instruction .read;
+        inside = s .is-instruction .inside;
+        fails = not-f (leads-is (s .from) (s .previous) t (s .leads));
+      })
+
+  no-target : (t : ℕ) → not (isTarget P code t) ≡ true → IsTarget P code t → ⊥
+  no-target t e s = no-way (sym (not-of (isTarget P code t) e) ∙ target-is t s)
+
+  not-target : (t : ℕ) → (IsTarget P code t → ⊥) → not (isTarget P code t) ≡ true
+  not-target t h = by (isTarget P code t) (λ e. absurd (h (target-of t e))) (λ e. not-i e)
+
+  -- rule 1
+  pub of1 : (a : ℕ) (p : Item) → ok1 P code a p ≡ true → Rule1 P code a p
+  unfolding ok1
+  of1 a p h =
+      let l : Bool = leb (after P code a) (endOf P code) in (
+        λ e. no-way (sym (ap isBuilt e) ∙ and-l (isBuilt (itemAt P code a)) l h),
+        leb-true (after P code a) (endOf P code) (and-r (isBuilt (itemAt P code a)) l h),
+      )
+
+  pub is1 : (a : ℕ) (p : Item) → Rule1 P code a p → ok1 P code a p ≡ true
+  unfolding ok1
+  is1 a p h = and-i (built-is (itemAt P code a) (h .0)) (le-leb (after P code a) (endOf P code) (h .1))
+
+  -- rule 2
+  pub of2 : (a : ℕ) (p : Item) → ok2 P code a p ≡ true → Rule2 P code a p
+  unfolding ok2
+  of2 a p h n c e = start-of (jrTargetOf a (signedFieldOf n)) (subst (λ s. jrOk P code a s ≡ true) e h)
+
+  jr-is : (a : ℕ) (s : Shape) → ((n c : ℕ) → s ≡ jr n c → IsStart P code (jrTargetOf a (signedFieldOf n))) → jrOk P code a s ≡ true
+  jr-is a other h = refl
+  jr-is a (movei d v) h = refl
+  jr-is a movepc h = refl
+  jr-is a (jr n c) h = start-is (jrTargetOf a (signedFieldOf n)) (h n c refl)
+  jr-is a (jump r c) h = refl
+  jr-is a (load m) h = refl
+  jr-is a (store m) h = refl
+
+  pub is2 : (a : ℕ) (p : Item) → Rule2 P code a p → ok2 P code a p ≡ true
+  unfolding ok2
+  is2 a p h = jr-is a (shapeAt P code a) h
+
+  -- rule 3
+  pub of3 : (a : ℕ) (p : Item) → ok3 P code a p ≡ true → Rule3 P code a p
+  unfolding ok3
+  of3 a p h r c e =
+      let held : Bool = holds (shapeOf p) r (isStart P code) in
+      let k : (held && not (isTarget P code a)) ≡ true = subst (λ s. jumpOk P code a (shapeOf p) s ≡ true) e h in
+      let q = holds-of (shapeOf p) r (isStart P code) (and-l held (not (isTarget P code a)) k) in
+      ((q .0, q .1, start-of (q .0) (q .2)), no-target a (and-r held (not (isTarget P code a)) k))
+
+  jump-is : (a : ℕ) (p s : Shape)
+      → ((r c : ℕ) → s ≡ jump r c → ((v : ℕ) × (p ≡ movei r v) × IsStart P code v) × (IsTarget P code a → ⊥)) → jumpOk P code a p s ≡ true
+  jump-is a p other h = refl
+  jump-is a p (movei d v) h = refl
+  jump-is a p movepc h = refl
+  jump-is a p (jr n c) h = refl
+  jump-is a p (jump r c) h =
+      let q = h r c refl in
+      and-i (holds-is r (q .0 .0) (isStart P code) (q .0 .1) (start-is (q .0 .0) (q .0 .2))) (not-target a (q .1))
+  jump-is a p (load m) h = refl
+  jump-is a p (store m) h = refl
+
+  pub is3 : (a : ℕ) (p : Item) → Rule3 P code a p → ok3 P code a p ≡ true
+  unfolding ok3
+  is3 a p h = jump-is a (shapeOf p) (shapeAt P code a) h
+
+  -- rule 4
+  pub of4 : (a : ℕ) (p : Item) → ok4 P code a p ≡ true → Rule4 P code a p
+  unfolding ok4
+  of4 a p h j =
+      let b : Bool = breaksSlot (shapeAt P code (after P code a)) in
+      let l : Bool = ltb (after P code a) (endOf P code) in
+      let q : (l && not b) ≡ true =
+      or-cases (not (jumps (shapeAt P code a))) (l && not b) h
+      (λ n. no-way (sym (not-of (jumps (shapeAt P code a)) n) ∙ j))
+      (λ n. n) in
+      (ltb-true (after P code a) (endOf P code) (and-l l (not b) q), not-of b (and-r l (not b) q))
+
+  pub is4 : (a : ℕ) (p : Item) → Rule4 P code a p → ok4 P code a p ≡ true
+  unfolding ok4
+  is4 a p h =
+      by (jumps (shapeAt P code a))
+      (λ j. or-r (not (jumps (shapeAt P code a)))
+      (and-i (lt-ltb (after P code a) (endOf P code) (h j .0)) (not-i (h j .1))))
+      (λ j. or-l (ltb (after P code a) (endOf P code) && not (breaksSlot (shapeAt P code (after P code a)))) (not-i j))
+
+  -- rule 5
+  pub of5 : (a : ℕ) (p : Item) → ok5 P code a p ≡ true → Rule5 P code a p
+  unfolding ok5
+  of5 a p h e =
+      let last : Bool = eqb (after P code a) (endOf P code) in
+      let t : Bool = not (isTarget P code a) in
+      let q : (always (shapeOf p) && t) ≡ true =
+      or-cases (not last) (always (shapeOf p) && t) h
+      (λ n. no-way (sym (not-of last n) ∙ eq-eqb (after P code a) (endOf P code) e))
+      (λ n. n) in
+      (and-l (always (shapeOf p)) t q, no-target a (and-r (always (shapeOf p)) t q))
+
+  pub is5 : (a : ℕ) (p : Item) → Rule5 P code a p → ok5 P code a p ≡ true
+  unfolding ok5
+  is5 a p h =
+      by (eqb (after P code a) (endOf P code))
+      (λ t.
+      let q = h (eqb-true (after P code a) (endOf P code) t) in
+      or-r (not (eqb (after P code a) (endOf P code))) (and-i (q .0) (not-target a (q .1))))
+      (λ t. or-l (always (shapeOf p) && not (isTarget P code a)) (not-i t))
+
+  -- rule 6
+  pub of6 : (a : ℕ) (k : List Range) → ok6 P code a k ≡ true → Rule6 P code a k
+  unfolding ok6
+  of6 a k h = (
+    λ m e. reaches-of (P .base) (addressRange k m) (subst (λ s. accessOk P code k s ≡ true) e h),
+    λ m e. reaches-of (endOf P code) (addressRange k m) (subst (λ s. accessOk P code k s ≡ true) e h),
+  )
+
+  access-is : (k : List Range) (s : Shape)
+      → ((m : Address) → s ≡ load m → Reaches P code (P .base) (addressRange k m))
+      → ((m : Address) → s ≡ store m → Reaches P code (endOf P code) (addressRange k m))
+      → accessOk P code k s ≡ true
+  access-is k other h g = refl
+  access-is k (movei d v) h g = refl
+  access-is k movepc h g = refl
+  access-is k (jr n c) h g = refl
+  access-is k (jump r c) h g = refl
+  access-is k (load m) h g = reaches-is (P .base) (addressRange k m) (h m refl)
+  access-is k (store m) h g = reaches-is (endOf P code) (addressRange k m) (g m refl)
+
+  pub is6 : (a : ℕ) (k : List Range) → Rule6 P code a k → ok6 P code a k ≡ true
+  unfolding ok6
+  is6 a k h = access-is k (shapeAt P code a) (h .0) (h .1)
