@@ -7,3 +7,4 @@ pub mod Agreement
 pub mod Invariant
 pub mod Fetching
 pub mod Access
+pub mod Step
