@@ -8,3 +8,4 @@ pub mod Invariant
 pub mod Fetching
 pub mod Access
 pub mod Step
+pub mod Demand

@@ -1,0 +1,216 @@
+-- Demand 3: an admitted program's every run is safe. The invariant holds at the start, every step keeps it, and a run is steps.
+-- Assumes nothing.
+use Prim.Native.Nat.{ℕ, zero, suc, _+_, _-_, _%_, _^_, _≤_, _<_}
+use mathlib.Core.Path.{_≡_, refl, sym, subst, _∙_, ap, ap₂}
+use mathlib.Core.Bool.{Bool, true, false, cond}
+use mathlib.Core.List.{List}
+use native.Mathlib.Omega.{arith}
+use lib.Dec.{eqb, ltb}
+use lib.ListN.{length, getD, take, length-take}
+use borrow.Author.Tests.{eq-eqb, le-ltb}
+use Rattle.memory.specs.Processor.{Processor, Sound}
+use Rattle.state.specs.Answers.{numberOf, completedOf}
+use Rattle.state.specs.declared.Core.{Core}
+use Rattle.state.specs.declared.Pending.{Pending}
+use Rattle.state.specs.declared.Pending.the-variants as Q
+use Rattle.state.specs.declared.Activity.{Activity}
+use Rattle.state.specs.declared.Activity.the-variants as A
+use Rattle.state.specs.declared.answers.Answer.the-variants.{Running, Stopped}
+use Rattle.effect.proofs.Widths.{FlagsFit}
+use Rattle.cpu.specs.Step.{View, viewFrom, Outcome, advanceOf}
+use Rattle.cpu.proofs.Lengths.{Lengths}
+use Rattle.cpu.proofs.Lengths as lengths
+use Rattle.cpu.proofs.Widths.{Below, PendingFits, CoreFits, Widths}
+use Rattle.cpu.proofs.Widths as widths
+use Rattle.machine.specs.declared.State.{State}
+use Rattle.machine.specs.Run.{budgetLimit, restOf, Runs, runsOf, cut, viewOf, stateOf, resultOf, runOf, stepOf}
+use Rattle.machine.proofs.Runs.{stopped}
+use Rattle.rules.specs.Reading.{unbuilt, endOf, first}
+use Rattle.rules.specs.Known.{unknown}
+use Rattle.rules.specs.Rules.{Rules}
+use Rattle.rules.specs.Check.{checkOf}
+use Rattle.rules.specs.declared.Verdict.the-variants.{Admitted}
+use Rattle.rules.specs.Safety.{Apart, IsRam, IsBank, IsTargetWord, IsState, Begins, Left, afterSteps, Kept, Safe, IsProgram, Demand3}
+use Rattle.rules.proofs.Booleans.{no-way}
+use Rattle.rules.proofs.Ranges.{wide}
+use Rattle.rules.proofs.Invariant.{by-fall, Inv}
+use Rattle.rules.proofs.Step.{step}
+use Rattle.rules.proofs.Exact.{obeys, passed, exactly, told}
+
+-- the banks in their order and with the active one first
+view-state : (v : View) → viewOf (stateOf v) ≡ v
+view-state v = go (eqb (v .core .bank % 2) 0)
+  where
+    go : (t : Bool) → viewFrom (cond t (cond t (v .active) (v .other)) (cond t (v .other) (v .active))) (cond t (cond t (v .other) (v .active)) (cond t (v .active) (v .other))) (v .core) ≡ v
+    go true = refl
+    go false = refl
+
+state-view : (s : State) → stateOf (viewOf s) ≡ s
+state-view s = go (eqb (s .core .bank % 2) 0)
+  where
+    go : (t : Bool) → _≡_ {A = State} (record { bank0 = cond t (cond t (s .bank0) (s .bank1)) (cond t (s .bank1) (s .bank0)); bank1 = cond t (cond t (s .bank1) (s .bank0)) (cond t (s .bank0) (s .bank1)); core = s .core }) s
+    go true = refl
+    go false = refl
+
+module _ (P : Processor) (sound : Sound P) (apart : Apart P) (code : List ℕ) (small : length code ≤ P .size) (R : Rules P code) where
+  -- what is carried from step to step
+  record Holds (ram : List ℕ) (v : View) : Type 0 where
+    inv : Inv P code ram v
+    sizes : Lengths (P .size) 32 32 ram v
+    words : Widths (2 ^ 32) ram v
+
+  -- a step of a running machine
+  record Advanced (ram : List ℕ) (v : View) : Type 0 where
+    completes : advanceOf P ram v .answer ≡ Running
+    holds : Holds (advanceOf P ram v .ram) (advanceOf P ram v .view)
+
+  advance : (ram : List ℕ) (v : View) → Holds ram v → v .core .activity ≡ A.Running → Advanced ram v
+  advance ram v h run =
+      let s = step P sound apart code small R ram v (h .inv) (h .sizes) (h .words .active-words) run in
+      let l = lengths.advanced P (P .size) 32 ram v (h .sizes) in
+      let w = widths.advanced (2 ^ 32) (omega arith) P ram v (h .words) in
+      record { completes = s .0; holds = record { inv = s .1 (wide _ (l .active-length) (w .active-words)); sizes = l; words = w } }
+
+  -- the same step of a state
+  same-step : (ram : List ℕ) (v : View) → length ram ≡ P .size → advanceOf P ram v .answer ≡ Running → (stepOf P ram (stateOf v) .ram ≡ advanceOf P ram v .ram) × (stepOf P ram (stateOf v) .ran .state ≡ stateOf (advanceOf P ram v .view))
+  unfolding runOf runsOf
+  same-step ram v whole e = rw (eq-eqb (length ram) (P .size) whole, view-state v, e) (refl, refl)
+
+  kept : (ram : List ℕ) (v : View) → Holds ram v → Kept P code (record { state = stateOf v; ram = ram })
+  kept ram v h =
+      record { same-code = h .inv .same-code; at-start = record { previous = h .inv .previous; is-instruction = h .inv .is-instruction } }
+
+  -- a run with n steps counted already, and m more
+  record SafeRun (b n : ℕ) (ram : List ℕ) (v : View) : Type 0 where
+    more : ℕ
+    counted : runsOf P b n ram v .steps ≡ n + more
+    answers : numberOf (runsOf P b n ram v .answer) ≤ 1
+    keeps : (k : ℕ) → k ≤ more → Kept P code (afterSteps P k ram (stateOf v))
+    ends : afterSteps P more ram (stateOf v) ≡ record { state = stateOf (runsOf P b n ram v .view); ram = runsOf P b n ram v .ram }
+
+  -- no step is made
+  rests : (b n : ℕ) (ram : List ℕ) (v : View) → Holds ram v → (r : Runs) → runsOf P b n ram v ≡ r → r .steps ≡ n → numberOf (r .answer) ≤ 1 → r .view ≡ v → r .ram ≡ ram → SafeRun b n ram v
+  unfolding afterSteps
+  rests b n ram v h r e steps small-answer same-view same-ram =
+      record {
+        more = 0;
+        counted = ap (λ x. x .steps) e ∙ steps ∙ omega arith;
+        answers = subst (λ x. numberOf (x .answer) ≤ 1) (sym e) small-answer;
+        keeps = λ k l. none k l;
+        ends = rw (e, same-view, same-ram);
+      }
+    where
+      none : (k : ℕ) → k ≤ 0 → Kept P code (afterSteps P k ram (stateOf v))
+      none zero l = kept ram v h
+      none (suc k) l = absurd (omega arith)
+
+  rest-small : (a : Activity) → numberOf (restOf a) ≤ 1
+  rest-small A.Running = omega arith
+  rest-small A.Stopped = omega arith
+
+  -- one step, and then the rest
+  module _ (b n : ℕ) (ram : List ℕ) (v : View) (h : Holds ram v) (a : Advanced ram v) where
+    goes-on : runsOf P (suc b) n ram v ≡ runsOf P b (n + 1) (advanceOf P ram v .ram) (advanceOf P ram v .view)
+    unfolding runsOf
+    goes-on = rw (a .completes)
+
+    shift : (k : ℕ) → afterSteps P (suc k) ram (stateOf v) ≡ afterSteps P k (advanceOf P ram v .ram) (stateOf (advanceOf P ram v .view))
+    unfolding afterSteps
+    shift k =
+        let s = same-step ram v (h .sizes .ram-length) (a .completes) in
+        ap₂ (λ (r : List ℕ) (t : State). afterSteps P k r t) (s .0) (s .1)
+
+    longer : SafeRun b (n + 1) (advanceOf P ram v .ram) (advanceOf P ram v .view) → SafeRun (suc b) n ram v
+    longer l =
+        record {
+          more = suc (l .more);
+          counted = ap (λ r. r .steps) goes-on ∙ l .counted ∙ omega arith;
+          answers = subst (λ r. numberOf (r .answer) ≤ 1) (sym goes-on) (l .answers);
+          keeps = each;
+          ends = shift (l .more) ∙ l .ends ∙ ap (λ r. record { state = stateOf (r .view); ram = r .ram }) (sym goes-on);
+        }
+      where
+        each : (k : ℕ) → k ≤ suc (l .more) → Kept P code (afterSteps P k ram (stateOf v))
+        each zero e = unfold afterSteps in kept ram v h
+        each (suc k) e = subst (Kept P code) (sym (shift k)) (l .keeps k (omega arith))
+
+  safe : (b n : ℕ) (ram : List ℕ) (v : View) → Holds ram v → SafeRun b n ram v
+  unfolding runsOf
+  safe zero n ram v h = rests zero n ram v h _ refl refl (rest-small (v .core .activity)) refl refl
+  safe (suc b) n ram v h = go (v .core .activity) refl (λ a. safe b (n + 1) _ _ (a .holds))
+    where
+      go : (t : Activity) → v .core .activity ≡ t → (Advanced ram v → SafeRun b (n + 1) (advanceOf P ram v .ram) (advanceOf P ram v .view)) → SafeRun (suc b) n ram v
+      go A.Stopped e later =
+          rests (suc b) n ram v h _ (stopped P (suc b) n ram v (h .sizes .ram-length) e) refl (omega arith) refl refl
+      go A.Running e later = let a = advance ram v h e in longer b n ram v h a (later a)
+
+  -- the state with its active bank first has words in its registers
+  module _ (ram : List ℕ) (s : State) (whole : length ram ≡ P .size) (bytes : IsRam ram) (is : IsState s) where
+    first-view : (t : Bool) → (Lengths (P .size) 32 32 ram (viewFrom (cond t (s .bank0) (s .bank1)) (cond t (s .bank1) (s .bank0)) (s .core))) × Below (2 ^ 32) (cond t (s .bank0) (s .bank1)) × Below (2 ^ 32) (cond t (s .bank1) (s .bank0))
+    first-view true =
+        (record { ram-length = whole; active-length = is .first-bank .registers; other-length = is .second-bank .registers }, is .first-bank .words, is .second-bank .words)
+    first-view false =
+        (record { ram-length = whole; active-length = is .second-bank .registers; other-length = is .first-bank .registers }, is .second-bank .words, is .first-bank .words)
+
+    pending-word : (p : Pending) → IsTargetWord p → PendingFits p
+    pending-word Q.None h = tt
+    pending-word (Q.At t) h = h
+
+    core-words : CoreFits (2 ^ 32) (s .core)
+    core-words =
+        record {
+          bank-fits = is .bank-word;
+          flags-fit = record { z-fits = is .z-word; n-fits = is .n-word; c-fits = is .c-word };
+          pc-fits = is .pc-word;
+          pending-fits = pending-word (s .core .pending) (is .target-word);
+          remainder-fits = is .remainder-word;
+          mode-fits = is .mode-word;
+          accumulator-fits = is .accumulator-word;
+        }
+
+    begins : take (length code) ram ≡ code → 0 < length code → Begins P s → Holds ram (viewOf s)
+    begins same some b =
+        let f = first-view (eqb (s .core .bank % 2) 0) in
+        record {
+          inv =
+              record {
+                same-code = same;
+                previous = unbuilt;
+                is-instruction = subst (λ a. Rattle.rules.specs.Rules.IsInstruction P code a unbuilt) (sym (b .at-first)) (record { read = first; inside = omega arith });
+                known = unknown;
+                knows = subst (λ a. Rattle.rules.specs.Rules.Knows P code a unknown) (sym (b .at-first)) first;
+                fits = wide _ (f .0 .active-length) (f .1);
+                came = by-fall (record { value = tt; pending = λ h. no-way h });
+                slot = λ t h. let z : _≡_ {A = ℕ} 0 1 = cc (b .none-pending, h) in absurd (omega arith);
+              };
+          sizes = f .0;
+          words = record { bytes = bytes .bytes; active-words = f .1; other-words = f .2; core-fits = core-words };
+        }
+
+    safely : take (length code) ram ≡ code → 0 < length code → Begins P s → (budget : ℕ) → budget ≤ budgetLimit → Safe P code ram s budget
+    safely same some b budget allowed =
+        let r = safe budget 0 ram (viewOf s) (begins same some b) in
+        subst (λ t. Safe P code ram t budget) (state-view s)
+        (record {
+          answers = rw (result budget allowed) (r .answers);
+          keeps = λ k l. r .keeps k (omega (arith, r .counted, ap (λ x. x .ran .steps) (result budget allowed)));
+          ends =
+              let c : runsOf P budget 0 ram (viewOf s) .steps ≡ r .more = omega (arith, r .counted) in
+              rw (result budget allowed) (ap (λ k. afterSteps P k ram (stateOf (viewOf s))) c ∙ r .ends);
+        })
+      where
+        result : (budget : ℕ) → budget ≤ budgetLimit → runOf P ram (stateOf (viewOf s)) budget ≡ resultOf (runsOf P budget 0 ram (viewOf s))
+        result budget allowed =
+            unfold runOf in
+            rw (eq-eqb (length ram) (P .size) whole, le-ltb budgetLimit budget allowed, view-state (viewOf s))
+
+pub demand3 : (P : Processor) → Sound P → Apart P → Demand3 P
+demand3 P sound apart =
+    record {
+      exactly = exactly P;
+      told = told P;
+      safely = λ admitted C e ram whole bytes same s is b budget allowed.
+          let p = passed P admitted C e in
+          let len : length (take C admitted) ≡ C = omega (arith, length-take C admitted, p .0 .whole-ram, p .0 .at-most) in
+          safely P sound apart (take C admitted) (omega (arith, p .0 .at-most)) (obeys P (take C admitted) (p .1)) ram s whole bytes is (rw len same) (omega (arith, p .0 .at-least)) b budget allowed;
+    }
