@@ -27,7 +27,9 @@ use Rattle.effect.specs.declared.Operands.{Operands}
 use Rattle.effect.specs.declared.Effect.{Effect}
 use Rattle.effect.specs.declared.Effect.the-variants as E
 use Rattle.effect.proofs.EffectWidths.{Each, _⊗_, found}
-use Rattle.rules.specs.Reading.{Item, unbuilt, built, itemIn}
+use Rattle.rules.specs.declared.Item.{Item}
+use Rattle.rules.specs.declared.Item.the-variants.{Unbuilt, Built}
+use Rattle.rules.specs.Reading.{itemIn}
 use Rattle.rules.proofs.Booleans.{no-way}
 
 -- no register of the active bank is written, and neither RAM nor the counter is touched
@@ -179,11 +181,11 @@ module _ (a : List ℕ) (s d : ℕ) (x : Operands) (es : x .s ≡ getD a s 0) (e
       ⊗ tt
 
   -- what stands at an address is of a class: its effect agrees with it, and the long behind it is the one that it has
-  pub agrees : (op long : ℕ) (c : Class) (v : ℕ) → itemIn (decodedAt op s d) long ≡ built c v → Agrees a (x .pc) c (effectIn (decodedAt op s d) a x) × (long ≡ v)
+  pub agrees : (op long : ℕ) (c : Class) (v : ℕ) → itemIn (decodedAt op s d) long ≡ Built c v → Agrees a (x .pc) c (effectIn (decodedAt op s d) a x) × (long ≡ v)
   unfolding decodedAt instructionAt
   agrees op long c v e = go (words.built op (eqb s 0) (eqb d 0)) e
     where
-      go : (t : Bool) → itemIn (cond t (D.Built (among op (instructions s d))) D.NotBuilt) long ≡ built c v → Agrees a (x .pc) c (effectIn (cond t (D.Built (among op (instructions s d))) D.NotBuilt) a x) × (long ≡ v)
+      go : (t : Bool) → itemIn (cond t (D.Built (among op (instructions s d))) D.NotBuilt) long ≡ Built c v → Agrees a (x .pc) c (effectIn (cond t (D.Built (among op (instructions s d))) D.NotBuilt) a x) × (long ≡ v)
       go true e =
           let same : classOf (among op (instructions s d)) ≡ c = cc in
           (subst (λ k. Agrees a (x .pc) k (effectOf (among op (instructions s d)) a x)) same (found (λ i. Agrees a (x .pc) (classOf i) (effectOf i a x)) op tt (instructions s d) each), cc)

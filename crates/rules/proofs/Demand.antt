@@ -25,7 +25,8 @@ use Rattle.cpu.proofs.Widths as widths
 use Rattle.machine.specs.declared.State.{State}
 use Rattle.machine.specs.Run.{budgetLimit, restOf, Runs, runsOf, cut, viewOf, stateOf, resultOf, runOf, stepOf}
 use Rattle.machine.proofs.Runs.{stopped}
-use Rattle.rules.specs.Reading.{unbuilt, endOf, first}
+use Rattle.rules.specs.declared.Item.the-variants.{Unbuilt}
+use Rattle.rules.specs.Reading.{endOf, first}
 use Rattle.rules.specs.Known.{unknown}
 use Rattle.rules.specs.Rules.{Rules}
 use Rattle.rules.specs.Check.{checkOf}
@@ -175,8 +176,8 @@ module _ (P : Processor) (sound : Sound P) (apart : Apart P) (code : List ℕ) (
           inv =
               record {
                 same-code = same;
-                previous = unbuilt;
-                is-instruction = subst (λ a. Rattle.rules.specs.Rules.IsInstruction P code a unbuilt) (sym (b .at-first)) (record { read = first; inside = omega arith });
+                previous = Unbuilt;
+                is-instruction = subst (λ a. Rattle.rules.specs.Rules.IsInstruction P code a Unbuilt) (sym (b .at-first)) (record { read = first; inside = omega arith });
                 known = unknown;
                 knows = subst (λ a. Rattle.rules.specs.Rules.Knows P code a unknown) (sym (b .at-first)) first;
                 fits = wide _ (f .0 .active-length) (f .1);

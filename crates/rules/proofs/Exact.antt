@@ -14,7 +14,9 @@ use Rattle.rules.specs.declared.Range.{Range}
 use Rattle.rules.specs.declared.Verdict.{Verdict}
 use Rattle.rules.specs.declared.Verdict.the-variants.{Admitted, RamLength, CodeLength, NotBuilt, JrTarget, JumpTarget, DelaySlot, Ending, Access}
 use Rattle.rules.specs.Verdicts.{numberOf}
-use Rattle.rules.specs.Reading.{Item, unbuilt, Hit, clear, hit}
+use Rattle.rules.specs.declared.Item.{Item}
+use Rattle.rules.specs.declared.Item.the-variants.{Unbuilt}
+use Rattle.rules.specs.Reading.{Hit, clear, hit}
 use Rattle.rules.specs.Known.{unknown}
 use Rattle.rules.specs.Check.{before, learn, ok1, ok2, ok3, ok4, ok5, ok6, first, firstAccess, orElse, rulesOf, isLength, checkOf}
 use Rattle.rules.specs.Rules.{Rule1, Rule2, Rule3, Rule4, Rule5, Rule6, Everywhere, EverywhereKnown, Rules, Lowest, LowestKnown}
@@ -31,22 +33,22 @@ one-clear (hit a) tells rest never e = absurd (never a e)
 -- a scan against a rule that its test says at each instruction
 module _ (P : Processor) (code : List ℕ) (ok : ℕ → Item → Bool) (R : ℕ → Item → Type 0) where
   everywhere : ((a : ℕ) (p : Item) → ok a p ≡ true → R a p) → first P code ok ≡ clear → Everywhere P code R
-  everywhere of e a p i = of a p (passes P code Item unbuilt (before P code) ok e (i .read) (i .inside))
+  everywhere of e a p i = of a p (passes P code Item Unbuilt (before P code) ok e (i .read) (i .inside))
 
   nowhere : ((a : ℕ) (p : Item) → R a p → ok a p ≡ true) → Everywhere P code R → first P code ok ≡ clear
   nowhere is all =
-      clears P code Item unbuilt (before P code) ok (λ a p r l. is a p (all a p (record { read = r; inside = l })))
+      clears P code Item Unbuilt (before P code) ok (λ a p r l. is a p (all a p (record { read = r; inside = l })))
 
   lowest : ((a : ℕ) (p : Item) → ok a p ≡ true → R a p) → ((a : ℕ) (p : Item) → R a p → ok a p ≡ true) → {f : ℕ}
       → first P code ok ≡ hit f → Lowest P code R f
   lowest of is {f} e =
-      let q = fails-there P code Item unbuilt (before P code) ok e in
+      let q = fails-there P code Item Unbuilt (before P code) ok e in
       subst (Lowest P code R) (q .1)
       (record {
         previous = q .0 .carried;
         is-instruction = record { read = q .0 .read; inside = q .0 .inside };
         broken = λ h. no-way (sym (q .0 .fails) ∙ is (q .0 .at) (q .0 .carried) h);
-        below = λ b p i l. of b p (passes-before P code Item unbuilt (before P code) ok e (i .read) (i .inside) (rw (q .1) at l));
+        below = λ b p i l. of b p (passes-before P code Item Unbuilt (before P code) ok e (i .read) (i .inside) (rw (q .1) at l));
       })
 
 module _ (P : Processor) (code : List ℕ) where

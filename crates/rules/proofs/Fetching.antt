@@ -11,16 +11,18 @@ use Rattle.memory.specs.Processor.{Processor, Sound}
 use Rattle.memory.specs.Memory.{wordAt, putLong, fetchOf, immediateOf}
 use Rattle.memory.specs.declared.Fetched.the-variants as F
 use Rattle.memory.specs.declared.Immediate.the-variants as I
-use Rattle.rules.specs.Reading.{Shape, other, movei, movepc, jr, jump, load, store, bytesOf, endOf, shapeAt, after, Reads, first, next}
+use Rattle.rules.specs.declared.Shape.{Shape}
+use Rattle.rules.specs.declared.Shape.the-variants.{Other, Movei, MovePc, Jr, Jump, Load, Store}
+use Rattle.rules.specs.Reading.{bytesOf, endOf, shapeAt, after, Reads, first, next}
 
 bytes-even : (s : Shape) → bytesOf s % 2 ≡ 0
-bytes-even other = refl
-bytes-even (movei d v) = refl
-bytes-even movepc = refl
-bytes-even (jr n c) = refl
-bytes-even (jump r c) = refl
-bytes-even (load m) = refl
-bytes-even (store m) = refl
+bytes-even Other = refl
+bytes-even (Movei d v) = refl
+bytes-even MovePc = refl
+bytes-even (Jr n c) = refl
+bytes-even (Jump r c) = refl
+bytes-even (Load m) = refl
+bytes-even (Store m) = refl
 
 -- an instruction has an even address, from the base on
 pub reads-even : {P : Processor} {code : List ℕ} {X : Type 0} {x₀ : X} {flow : ℕ → X → X} {a : ℕ} {x : X} → P .base % 4 ≡ 0 → Reads P code X x₀ flow a x → (a % 2 ≡ 0) × (P .base ≤ a)

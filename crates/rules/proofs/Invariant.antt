@@ -18,7 +18,11 @@ use Rattle.state.specs.declared.Pending.{Pending}
 use Rattle.state.specs.declared.Pending.the-variants.{None, At}
 use Rattle.cpu.specs.Step.{View, viewFrom}
 use Rattle.rules.specs.declared.Range.{Range}
-use Rattle.rules.specs.Reading.{Item, unbuilt, built, Shape, other, movei, movepc, jr, jump, load, store, shapeIn, shapeOf, bytesOf, endOf, itemAt, shapeAt, after, Reads, first, next}
+use Rattle.rules.specs.declared.Item.{Item}
+use Rattle.rules.specs.declared.Item.the-variants.{Unbuilt, Built}
+use Rattle.rules.specs.declared.Shape.{Shape}
+use Rattle.rules.specs.declared.Shape.the-variants.{Other, Movei, MovePc, Jr, Jump, Load, Store}
+use Rattle.rules.specs.Reading.{shapeIn, shapeOf, bytesOf, endOf, itemAt, shapeAt, after, Reads, first, next}
 use Rattle.rules.specs.Known.{unknown, transfer, transferOf}
 use Rattle.rules.specs.Check.{breaksSlot, always, isTarget, learn, before}
 use Rattle.rules.specs.Rules.{IsInstruction, IsStart, Leads, by-jr, by-jump, IsTarget, Knows, Rules}
@@ -29,13 +33,13 @@ use Rattle.rules.proofs.Ranges.{Fits}
 
 -- what an instruction that was just run left in the active bank: a MOVEI's register holds its value
 abbrev pub Left : Shape → List ℕ → Type 0
-Left other a = Unit {0}
-Left (movei d v) a = getD a d 0 ≡ v
-Left movepc a = Unit {0}
-Left (jr n c) a = Unit {0}
-Left (jump r c) a = Unit {0}
-Left (load m) a = Unit {0}
-Left (store m) a = Unit {0}
+Left Other a = Unit {0}
+Left (Movei d v) a = getD a d 0 ≡ v
+Left MovePc a = Unit {0}
+Left (Jr n c) a = Unit {0}
+Left (Jump r c) a = Unit {0}
+Left (Load m) a = Unit {0}
+Left (Store m) a = Unit {0}
 
 -- control fell through from p: its value stands, and a jump is pending where p always jumps
 pub record Fell (p : Shape) (v : View) : Type 0 where
@@ -128,7 +132,7 @@ module _ (P : Processor) (code : List ℕ) (R : Rules P code) where
 
   module _ (sound : Sound P) (small : length code ≤ P .size) where
     -- a whole instruction of one word, from a state in which registers, flags or RAM have changed already
-    pub arrive : {ram : List ℕ} {v : View} (inv : Inv P code ram v) (c : Class) (n : ℕ) → itemAt P code (v .core .pc) ≡ built c n → bytesOf (shapeIn c n) ≡ 2 → always (shapeIn c n) ≡ false → (k : Core) (a o ram′ : List ℕ) → take (length code) ram′ ≡ code → k .pc ≡ v .core .pc → k .pending ≡ v .core .pending → Left (shapeIn c n) a → Fits (transfer P c n (inv .known)) a → Fits unknown a → Inv P code ram′ (viewFrom a o (movedOf k None))
+    pub arrive : {ram : List ℕ} {v : View} (inv : Inv P code ram v) (c : Class) (n : ℕ) → itemAt P code (v .core .pc) ≡ Built c n → bytesOf (shapeIn c n) ≡ 2 → always (shapeIn c n) ≡ false → (k : Core) (a o ram′ : List ℕ) → take (length code) ram′ ≡ code → k .pc ≡ v .core .pc → k .pending ≡ v .core .pending → Left (shapeIn c n) a → Fits (transfer P c n (inv .known)) a → Fits unknown a → Inv P code ram′ (viewFrom a o (movedOf k None))
     unfolding transferOf
     arrive {ram} {v} inv c n item two never k a o ram′ same ep eq left f wide = go (v .core .pending) refl
       where

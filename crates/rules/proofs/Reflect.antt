@@ -11,7 +11,11 @@ use Rattle.isa.specs.Fields.{signedFieldOf}
 use Rattle.alu.specs.Jump.{jrTargetOf}
 use Rattle.memory.specs.Processor.{Processor}
 use Rattle.rules.specs.declared.Range.{Range}
-use Rattle.rules.specs.Reading.{Item, unbuilt, built, Shape, other, movei, movepc, jr, jump, load, store, shapeOf, endOf, itemAt, shapeAt, after}
+use Rattle.rules.specs.declared.Item.{Item}
+use Rattle.rules.specs.declared.Item.the-variants.{Unbuilt, Built}
+use Rattle.rules.specs.declared.Shape.{Shape}
+use Rattle.rules.specs.declared.Shape.the-variants.{Other, Movei, MovePc, Jr, Jump, Load, Store}
+use Rattle.rules.specs.Reading.{shapeOf, endOf, itemAt, shapeAt, after}
 use Rattle.rules.specs.Known.{addressRange, isExactly}
 use Rattle.rules.specs.Check.{isBuilt, jumps, breaksSlot, always, holds, leads, within, before, isStart, isTarget, jrOk, jumpOk, accessOk, ok1, ok2, ok3, ok4, ok5, ok6}
 use Rattle.rules.specs.Rules.{IsStart, Leads, by-jr, by-jump, IsTarget, Place, in-ram, at-flags, at-control, at-divide, Reaches, Rule1, Rule2, Rule3, Rule4, Rule5, Rule6}
@@ -21,21 +25,21 @@ use Rattle.rules.proofs.Scan.{finds, is-found}
 not-f : {a : Bool} → a ≡ true → not a ≡ false
 not-f {a} e = rw e
 
-built-is : (i : Item) → (i ≡ unbuilt → ⊥) → isBuilt i ≡ true
-built-is unbuilt h = absurd (h refl)
-built-is (built c v) h = refl
+built-is : (i : Item) → (i ≡ Unbuilt → ⊥) → isBuilt i ≡ true
+built-is Unbuilt h = absurd (h refl)
+built-is (Built c v) h = refl
 
-holds-of : (p : Shape) (r : ℕ) (f : ℕ → Bool) → holds p r f ≡ true → (v : ℕ) × (p ≡ movei r v) × (f v ≡ true)
-holds-of other r f e = no-way e
-holds-of (movei d v) r f e =
-    (v, ap (λ x. movei x v) (eqb-true d r (and-l (eqb d r) (f v) e)), and-r (eqb d r) (f v) e)
-holds-of movepc r f e = no-way e
-holds-of (jr n c) r f e = no-way e
-holds-of (jump s c) r f e = no-way e
-holds-of (load m) r f e = no-way e
-holds-of (store m) r f e = no-way e
+holds-of : (p : Shape) (r : ℕ) (f : ℕ → Bool) → holds p r f ≡ true → (v : ℕ) × (p ≡ Movei r v) × (f v ≡ true)
+holds-of Other r f e = no-way e
+holds-of (Movei d v) r f e =
+    (v, ap (λ x. Movei x v) (eqb-true d r (and-l (eqb d r) (f v) e)), and-r (eqb d r) (f v) e)
+holds-of MovePc r f e = no-way e
+holds-of (Jr n c) r f e = no-way e
+holds-of (Jump s c) r f e = no-way e
+holds-of (Load m) r f e = no-way e
+holds-of (Store m) r f e = no-way e
 
-holds-is : {p : Shape} (r v : ℕ) (f : ℕ → Bool) → p ≡ movei r v → f v ≡ true → holds p r f ≡ true
+holds-is : {p : Shape} (r v : ℕ) (f : ℕ → Bool) → p ≡ Movei r v → f v ≡ true → holds p r f ≡ true
 holds-is r v f q e = subst (λ p. holds p r f ≡ true) (sym q) (and-i (eq-eqb r r refl) e)
 
 exactly-of : (x : Range) (n : ℕ) → isExactly x n ≡ true → (x .low ≡ n) × (x .high ≡ n)
@@ -90,7 +94,7 @@ module _ (P : Processor) (code : List ℕ) where
   pub start-of : (t : ℕ) → isStart P code t ≡ true → IsStart P code t
   unfolding isStart
   start-of t e =
-      let f = finds P code Item unbuilt (before P code) (λ a p. not (eqb a t)) e in
+      let f = finds P code Item Unbuilt (before P code) (λ a p. not (eqb a t)) e in
       let same : f .at ≡ t = eqb-true (f .at) t (not-false (eqb (f .at) t) (f .fails)) in
       subst (IsStart P code) same
       (record { previous = f .carried; is-instruction = record { read = f .read; inside = f .inside } })
@@ -98,7 +102,7 @@ module _ (P : Processor) (code : List ℕ) where
   pub start-is : (t : ℕ) → IsStart P code t → isStart P code t ≡ true
   unfolding isStart
   start-is t s =
-      is-found P code Item unbuilt (before P code) (λ a p. not (eqb a t))
+      is-found P code Item Unbuilt (before P code) (λ a p. not (eqb a t))
       (record {
         at = t;
         carried = s .previous;
@@ -109,15 +113,15 @@ module _ (P : Processor) (code : List ℕ) where
 
   -- a jump and its target
   leads-by : (a : ℕ) (p : Item) (t : ℕ) (s : Shape) → shapeAt P code a ≡ s → leads a (shapeOf p) s t ≡ true → Leads P code a p t
-  leads-by a p t other q e = no-way e
-  leads-by a p t (movei d v) q e = no-way e
-  leads-by a p t movepc q e = no-way e
-  leads-by a p t (jr n c) q e = by-jr n c q (eqb-true (jrTargetOf a (signedFieldOf n)) t e)
-  leads-by a p t (jump r c) q e =
+  leads-by a p t Other q e = no-way e
+  leads-by a p t (Movei d v) q e = no-way e
+  leads-by a p t MovePc q e = no-way e
+  leads-by a p t (Jr n c) q e = by-jr n c q (eqb-true (jrTargetOf a (signedFieldOf n)) t e)
+  leads-by a p t (Jump r c) q e =
       let h = holds-of (shapeOf p) r (λ v. eqb v t) e in
-      by-jump r c q (h .1 ∙ ap (movei r) (eqb-true (h .0) t (h .2)))
-  leads-by a p t (load m) q e = no-way e
-  leads-by a p t (store m) q e = no-way e
+      by-jump r c q (h .1 ∙ ap (Movei r) (eqb-true (h .0) t (h .2)))
+  leads-by a p t (Load m) q e = no-way e
+  leads-by a p t (Store m) q e = no-way e
 
   pub leads-of : (a : ℕ) (p : Item) (t : ℕ) → leads a (shapeOf p) (shapeAt P code a) t ≡ true → Leads P code a p t
   leads-of a p t e = leads-by a p t (shapeAt P code a) refl e
@@ -131,7 +135,7 @@ module _ (P : Processor) (code : List ℕ) where
   pub target-of : (t : ℕ) → isTarget P code t ≡ true → IsTarget P code t
   unfolding isTarget
   target-of t e =
-      let f = finds P code Item unbuilt (before P code) (λ a p. not (leads a (shapeOf p) (shapeAt P code a) t)) e in
+      let f = finds P code Item Unbuilt (before P code) (λ a p. not (leads a (shapeOf p) (shapeAt P code a) t)) e in
       record {
         from = f .at;
         previous = f .carried;
@@ -144,7 +148,7 @@ module _ (P : Processor) (code : List ℕ) where
   pub target-is : (t : ℕ) → IsTarget P code t → isTarget P code t ≡ true
   unfolding isTarget
   target-is t s =
-      is-found P code Item unbuilt (before P code) (λ a p. not (leads a (shapeOf p) (shapeAt P code a) t))
+      is-found P code Item Unbuilt (before P code) (λ a p. not (leads a (shapeOf p) (shapeAt P code a) t))
       (record {
         at = s .from;
         carried = s .previous;
@@ -177,14 +181,14 @@ module _ (P : Processor) (code : List ℕ) where
   unfolding ok2
   of2 a p h n c e = start-of (jrTargetOf a (signedFieldOf n)) (subst (λ s. jrOk P code a s ≡ true) e h)
 
-  jr-is : (a : ℕ) (s : Shape) → ((n c : ℕ) → s ≡ jr n c → IsStart P code (jrTargetOf a (signedFieldOf n))) → jrOk P code a s ≡ true
-  jr-is a other h = refl
-  jr-is a (movei d v) h = refl
-  jr-is a movepc h = refl
-  jr-is a (jr n c) h = start-is (jrTargetOf a (signedFieldOf n)) (h n c refl)
-  jr-is a (jump r c) h = refl
-  jr-is a (load m) h = refl
-  jr-is a (store m) h = refl
+  jr-is : (a : ℕ) (s : Shape) → ((n c : ℕ) → s ≡ Jr n c → IsStart P code (jrTargetOf a (signedFieldOf n))) → jrOk P code a s ≡ true
+  jr-is a Other h = refl
+  jr-is a (Movei d v) h = refl
+  jr-is a MovePc h = refl
+  jr-is a (Jr n c) h = start-is (jrTargetOf a (signedFieldOf n)) (h n c refl)
+  jr-is a (Jump r c) h = refl
+  jr-is a (Load m) h = refl
+  jr-is a (Store m) h = refl
 
   pub is2 : (a : ℕ) (p : Item) → Rule2 P code a p → ok2 P code a p ≡ true
   unfolding ok2
@@ -200,16 +204,16 @@ module _ (P : Processor) (code : List ℕ) where
       ((q .0, q .1, start-of (q .0) (q .2)), no-target a (and-r held (not (isTarget P code a)) k))
 
   jump-is : (a : ℕ) (p s : Shape)
-      → ((r c : ℕ) → s ≡ jump r c → ((v : ℕ) × (p ≡ movei r v) × IsStart P code v) × (IsTarget P code a → ⊥)) → jumpOk P code a p s ≡ true
-  jump-is a p other h = refl
-  jump-is a p (movei d v) h = refl
-  jump-is a p movepc h = refl
-  jump-is a p (jr n c) h = refl
-  jump-is a p (jump r c) h =
+      → ((r c : ℕ) → s ≡ Jump r c → ((v : ℕ) × (p ≡ Movei r v) × IsStart P code v) × (IsTarget P code a → ⊥)) → jumpOk P code a p s ≡ true
+  jump-is a p Other h = refl
+  jump-is a p (Movei d v) h = refl
+  jump-is a p MovePc h = refl
+  jump-is a p (Jr n c) h = refl
+  jump-is a p (Jump r c) h =
       let q = h r c refl in
       and-i (holds-is r (q .0 .0) (isStart P code) (q .0 .1) (start-is (q .0 .0) (q .0 .2))) (not-target a (q .1))
-  jump-is a p (load m) h = refl
-  jump-is a p (store m) h = refl
+  jump-is a p (Load m) h = refl
+  jump-is a p (Store m) h = refl
 
   pub is3 : (a : ℕ) (p : Item) → Rule3 P code a p → ok3 P code a p ≡ true
   unfolding ok3
@@ -265,16 +269,16 @@ module _ (P : Processor) (code : List ℕ) where
   )
 
   access-is : (k : List Range) (s : Shape)
-      → ((m : Address) → s ≡ load m → Reaches P code (P .base) (addressRange k m))
-      → ((m : Address) → s ≡ store m → Reaches P code (endOf P code) (addressRange k m))
+      → ((m : Address) → s ≡ Load m → Reaches P code (P .base) (addressRange k m))
+      → ((m : Address) → s ≡ Store m → Reaches P code (endOf P code) (addressRange k m))
       → accessOk P code k s ≡ true
-  access-is k other h g = refl
-  access-is k (movei d v) h g = refl
-  access-is k movepc h g = refl
-  access-is k (jr n c) h g = refl
-  access-is k (jump r c) h g = refl
-  access-is k (load m) h g = reaches-is (P .base) (addressRange k m) (h m refl)
-  access-is k (store m) h g = reaches-is (endOf P code) (addressRange k m) (g m refl)
+  access-is k Other h g = refl
+  access-is k (Movei d v) h g = refl
+  access-is k MovePc h g = refl
+  access-is k (Jr n c) h g = refl
+  access-is k (Jump r c) h g = refl
+  access-is k (Load m) h g = reaches-is (P .base) (addressRange k m) (h m refl)
+  access-is k (Store m) h g = reaches-is (endOf P code) (addressRange k m) (g m refl)
 
   pub is6 : (a : ℕ) (k : List Range) → Rule6 P code a k → ok6 P code a k ≡ true
   unfolding ok6

@@ -9,17 +9,19 @@ use lib.Dec.{ltb}
 use lib.ListN.{length}
 use borrow.Author.Tests.{ltb-true, ltb-false, lt-ltb, le-ltb}
 use Rattle.memory.specs.Processor.{Processor}
-use Rattle.rules.specs.Reading.{Shape, other, movei, movepc, jr, jump, load, store, bytesOf, endOf, shapeAt, after, Reads, first, next, Hit, clear, hit, found, scan, firstBad}
+use Rattle.rules.specs.declared.Shape.{Shape}
+use Rattle.rules.specs.declared.Shape.the-variants.{Other, Movei, MovePc, Jr, Jump, Load, Store}
+use Rattle.rules.specs.Reading.{bytesOf, endOf, shapeAt, after, Reads, first, next, Hit, clear, hit, found, scan, firstBad}
 use Rattle.rules.proofs.Booleans.{by, no-way}
 
 bytes-least : (s : Shape) → 2 ≤ bytesOf s
-bytes-least other = omega arith
-bytes-least (movei d v) = omega arith
-bytes-least movepc = omega arith
-bytes-least (jr n c) = omega arith
-bytes-least (jump r c) = omega arith
-bytes-least (load m) = omega arith
-bytes-least (store m) = omega arith
+bytes-least Other = omega arith
+bytes-least (Movei d v) = omega arith
+bytes-least MovePc = omega arith
+bytes-least (Jr n c) = omega arith
+bytes-least (Jump r c) = omega arith
+bytes-least (Load m) = omega arith
+bytes-least (Store m) = omega arith
 
 pub after-later : (P : Processor) (code : List ℕ) (a : ℕ) → a + 2 ≤ after P code a
 after-later P code a = omega (arith, bytes-least (shapeAt P code a))

@@ -35,7 +35,11 @@ use Rattle.state.specs.declared.answers.Answer.the-variants.{Running}
 use Rattle.cpu.specs.Step.{View, viewFrom, Outcome, unwritten, doneOf, jumpOf, stayOf, inActive, moveImmediateOf, moveCounterOf, moveLoadedOf, loadOf, storeOf, applyOf, operandsOf, executeOf, advanceOf}
 use Rattle.cpu.proofs.Lengths.{Lengths}
 use Rattle.rules.specs.declared.Range.{Range}
-use Rattle.rules.specs.Reading.{Item, unbuilt, built, Shape, other, movei, movepc, jr, jump, load, store, itemIn, itemOf, shapeIn, shapeOf, bytesOf, endOf, itemAt, shapeAt, after}
+use Rattle.rules.specs.declared.Item.{Item}
+use Rattle.rules.specs.declared.Item.the-variants.{Unbuilt, Built}
+use Rattle.rules.specs.declared.Shape.{Shape}
+use Rattle.rules.specs.declared.Shape.the-variants.{Other, Movei, MovePc, Jr, Jump, Load, Store}
+use Rattle.rules.specs.Reading.{itemIn, itemOf, shapeIn, shapeOf, bytesOf, endOf, itemAt, shapeAt, after}
 use Rattle.rules.specs.Known.{full, unknown, exactly, rangeAt, andRange, sumRange, lessRange, shiftedRange, addressRange, isExactly, transfer, transferOf}
 use Rattle.rules.specs.Check.{jumps, breaksSlot, always}
 use Rattle.rules.specs.Rules.{IsTarget, by-jr, by-jump, Rules, Reaches}
@@ -63,7 +67,7 @@ module _ (P : Processor) (sound : Sound P) (apart : Apart P) (code : List ℕ) (
   abbrev Steps : Outcome → Type 0
   Steps o = (o .answer ≡ Running) × (Fits unknown (o .view .active) → Inv P code (o .ram) (o .view))
 
-  module _ (c : Class) (n : ℕ) (item : itemAt P code (v .core .pc) ≡ built c n) where
+  module _ (c : Class) (n : ℕ) (item : itemAt P code (v .core .pc) ≡ Built c n) where
     shape-is : shapeAt P code (v .core .pc) ≡ shapeIn c n
     shape-is = ap shapeOf item
 
@@ -77,7 +81,7 @@ module _ (P : Processor) (sound : Sound P) (apart : Apart P) (code : List ℕ) (
     unchanged t w = subst (λ k. Fits k (v .active)) (sym t) (inv .fits)
 
     -- an instruction of no other concern to the rules
-    module _ (plain : shapeIn c n ≡ other) where
+    module _ (plain : shapeIn c n ≡ Other) where
       plainly : (k : Core) (a o : List ℕ) → k .pc ≡ v .core .pc → k .pending ≡ v .core .pending → (Fits unknown a → Fits (transfer P c n (inv .known)) a) → Fits unknown a → Inv P code ram (viewFrom a o (movedOf k Q.None))
       plainly k a o ep eq f wide =
           moves (ap bytesOf plain) (ap always plain) k a o ram (inv .same-code) ep eq (subst (λ s. Left s a) (sym plain) tt) f wide
@@ -154,7 +158,7 @@ module _ (P : Processor) (sound : Sound P) (apart : Apart P) (code : List ℕ) (
   in-address (Indexed r s) = in-sum (fits-at (inv .fits) r) (fits-at (inv .fits) s)
 
   -- LOAD
-  module _ (m : Address) (d n : ℕ) (item : itemAt P code (v .core .pc) ≡ built (C.Load m d) n) where
+  module _ (m : Address) (d n : ℕ) (item : itemAt P code (v .core .pc) ≡ Built (C.Load m d) n) where
     loads-long : (k : ℕ) → d % 32 ≡ d → Fits unknown (set (v .active) (d % 32) k) → Inv P code ram (viewFrom (set (v .active) (d % 32) k) (v .other) (movedOf (v .core) Q.None))
     loads-long k e =
         moves (C.Load m d) n item refl refl (v .core) _ (v .other) ram (inv .same-code) refl refl tt
@@ -169,7 +173,7 @@ module _ (P : Processor) (sound : Sound P) (apart : Apart P) (code : List ℕ) (
     loads e M.Unmapped h = absurd h
 
   -- STORE
-  module _ (m : Address) (d n : ℕ) (item : itemAt P code (v .core .pc) ≡ built (C.Store m d) n) where
+  module _ (m : Address) (d n : ℕ) (item : itemAt P code (v .core .pc) ≡ Built (C.Store m d) n) where
     -- whether or not the address is the flag register's
     either : (t : Bool) → Fits unknown (v .active) → Fits (cond t unknown (inv .known)) (v .active)
     either true w = w
@@ -208,7 +212,7 @@ module _ (P : Processor) (sound : Sound P) (apart : Apart P) (code : List ℕ) (
   ends = R .rule1 (v .core .pc) (inv .previous) (inv .is-instruction) .1
 
   -- JR and JUMP
-  module _ (c : Class) (n : ℕ) (item : itemAt P code (v .core .pc) ≡ built c n) (is-jump : jumps (shapeIn c n) ≡ true) (slot-breaker : breaksSlot (shapeIn c n) ≡ true) (two : bytesOf (shapeIn c n) ≡ 2) (knows-same : transfer P c n (inv .known) ≡ inv .known) (leaves : Left (shapeIn c n) (v .active)) where
+  module _ (c : Class) (n : ℕ) (item : itemAt P code (v .core .pc) ≡ Built c n) (is-jump : jumps (shapeIn c n) ≡ true) (slot-breaker : breaksSlot (shapeIn c n) ≡ true) (two : bytesOf (shapeIn c n) ≡ 2) (knows-same : transfer P c n (inv .known) ≡ inv .known) (leaves : Left (shapeIn c n) (v .active)) where
     none : v .core .pending ≡ Q.None
     none = none-pending (ap breaksSlot (shape-is c n item) ∙ slot-breaker)
 
@@ -237,7 +241,7 @@ module _ (P : Processor) (sound : Sound P) (apart : Apart P) (code : List ℕ) (
             (refl, goes-on Q.None (λ h z. let zero : q ≡ 0 = eqb-true q 0 (sym a ∙ h) in no-way (sym e ∙ ap (λ m. takenOf m (v .core .flags)) zero ∙ always-taken (v .core .flags))) (λ u h. let w : _≡_ {A = ℕ} 0 1 = cc in absurd (omega arith)))
 
   -- MOVEI
-  moves-immediate : (d n : ℕ) → itemAt P code (v .core .pc) ≡ built (C.Movei d) n → d % 32 ≡ d → immediateOf P ram (v .core .pc) ≡ I.Long n → Steps (applyOf P ram v (E.Immediate d))
+  moves-immediate : (d n : ℕ) → itemAt P code (v .core .pc) ≡ Built (C.Movei d) n → d % 32 ≡ d → immediateOf P ram (v .core .pc) ≡ I.Long n → Steps (applyOf P ram v (E.Immediate d))
   unfolding applyOf transferOf
   moves-immediate d n item e long =
       let none = none-pending (ap breaksSlot (shape-is (C.Movei d) n item)) in
@@ -259,7 +263,7 @@ module _ (P : Processor) (sound : Sound P) (apart : Apart P) (code : List ℕ) (
           (λ t h. let z : _≡_ {A = ℕ} 0 1 = cc in absurd (omega arith))
 
   -- MOVE PC
-  moves-counter : (d n : ℕ) → itemAt P code (v .core .pc) ≡ built (C.MovePc d) n → d % 32 ≡ d → Steps (applyOf P ram v (E.Counter d))
+  moves-counter : (d n : ℕ) → itemAt P code (v .core .pc) ≡ Built (C.MovePc d) n → d % 32 ≡ d → Steps (applyOf P ram v (E.Counter d))
   unfolding applyOf
   moves-counter d n item e =
       let none = none-pending (ap breaksSlot (shape-is (C.MovePc d) n item)) in
@@ -268,7 +272,7 @@ module _ (P : Processor) (sound : Sound P) (apart : Apart P) (code : List ℕ) (
 
   -- whatever is at the counter
   module _ (words : (i : ℕ) → getD (v .active) i 0 < 2 ^ 32) where
-    stepped : (c : Class) (n : ℕ) → itemAt P code (v .core .pc) ≡ built c n → ((d : ℕ) → c ≡ C.Movei d → immediateOf P ram (v .core .pc) ≡ I.Long n) → (e : Effect) → Agrees (v .active) (v .core .pc) c e → Steps (applyOf P ram v e)
+    stepped : (c : Class) (n : ℕ) → itemAt P code (v .core .pc) ≡ Built c n → ((d : ℕ) → c ≡ C.Movei d → immediateOf P ram (v .core .pc) ≡ I.Long n) → (e : Effect) → Agrees (v .active) (v .core .pc) c e → Steps (applyOf P ram v e)
     unfolding applyOf
     stepped C.Quiet n item long e h = silent C.Quiet n item refl refl e h
     stepped (C.Write d) n item long e h = writes (C.Write d) n item refl d refl e h
@@ -299,7 +303,7 @@ module _ (P : Processor) (sound : Sound P) (apart : Apart P) (code : List ℕ) (
     stepped (C.Jump r q) n item long e h =
         subst (λ x. Steps (applyOf P ram v x)) (sym h) (jumping (C.Jump r q) n item refl refl refl refl tt q (getD (v .active) r 0) refl (go (inv .came)))
       where
-        rule : ((t : ℕ) × (shapeOf (inv .previous) ≡ movei r t) × Rattle.rules.specs.Rules.IsStart P code t) × (IsTarget P code (v .core .pc) → ⊥)
+        rule : ((t : ℕ) × (shapeOf (inv .previous) ≡ Movei r t) × Rattle.rules.specs.Rules.IsStart P code t) × (IsTarget P code (v .core .pc) → ⊥)
         rule = R .rule3 (v .core .pc) (inv .previous) (inv .is-instruction) r q (shape-is (C.Jump r q) n item)
 
         go : Came P code (inv .previous) v → IsTarget P code (getD (v .active) r 0)
@@ -319,13 +323,13 @@ module _ (P : Processor) (sound : Sound P) (apart : Apart P) (code : List ℕ) (
     i = v .core .pc - P .base
 
     two-bytes : (s : Shape) → 2 ≤ bytesOf s
-    two-bytes other = omega arith
-    two-bytes (movei d m) = omega arith
-    two-bytes movepc = omega arith
-    two-bytes (jr k q) = omega arith
-    two-bytes (jump r q) = omega arith
-    two-bytes (load m) = omega arith
-    two-bytes (store m) = omega arith
+    two-bytes Other = omega arith
+    two-bytes (Movei d m) = omega arith
+    two-bytes MovePc = omega arith
+    two-bytes (Jr k q) = omega arith
+    two-bytes (Jump r q) = omega arith
+    two-bytes (Load m) = omega arith
+    two-bytes (Store m) = omega arith
 
     code-word : (j : ℕ) → j + 2 ≤ length code → wordAt code j ≡ wordAt ram j
     code-word j h = ap (λ l. wordAt l j) (sym (inv .same-code)) ∙ word-same (length code) ram j h
@@ -341,8 +345,8 @@ module _ (P : Processor) (sound : Sound P) (apart : Apart P) (code : List ℕ) (
     step run = go (itemAt P code (v .core .pc)) refl
       where
         go : (t : Item) → itemAt P code (v .core .pc) ≡ t → Steps (advanceOf P ram v)
-        go unbuilt e = absurd (R .rule1 (v .core .pc) (inv .previous) (inv .is-instruction) .0 e)
-        go (built c n) e =
+        go Unbuilt e = absurd (R .rule1 (v .core .pc) (inv .previous) (inv .is-instruction) .0 e)
+        go (Built c n) e =
             let j = v .core .pc - P .base in
             let w = wordAt ram j in
             let b = two-bytes (shapeAt P code (v .core .pc)) in
@@ -351,9 +355,9 @@ module _ (P : Processor) (sound : Sound P) (apart : Apart P) (code : List ℕ) (
             let g = agrees (v .active) (w / 32 % 32) (w % 32) (operandsOf (v .active) (v .core) w) refl refl (omega arith) (w / 1024) long c n (ap (λ m. itemIn (decodeOf m) long) (sym word) ∙ e) in
             subst Steps (sym (executes run)) (stepped c n e (λ d same. immediate d c n e same (g .1)) _ (g .0))
           where
-            immediate : (d : ℕ) (c : Class) (n : ℕ) → itemAt P code (v .core .pc) ≡ built c n → c ≡ C.Movei d → wordAt code (v .core .pc - P .base + 4) * 2 ^ 16 + wordAt code (v .core .pc - P .base + 2) ≡ n → immediateOf P ram (v .core .pc) ≡ I.Long n
+            immediate : (d : ℕ) (c : Class) (n : ℕ) → itemAt P code (v .core .pc) ≡ Built c n → c ≡ C.Movei d → wordAt code (v .core .pc - P .base + 4) * 2 ^ 16 + wordAt code (v .core .pc - P .base + 2) ≡ n → immediateOf P ram (v .core .pc) ≡ I.Long n
             immediate d c n e same long =
                 let j = v .core .pc - P .base in
-                let six : after P code (v .core .pc) ≡ v .core .pc + 6 = ap (λ t. v .core .pc + bytesOf (shapeOf t)) (e ∙ ap (λ k. built k n) same) in
+                let six : after P code (v .core .pc) ≡ v .core .pc + 6 = ap (λ t. v .core .pc + bytesOf (shapeOf t)) (e ∙ ap (λ k. Built k n) same) in
                 fetched-long P ram (lengths .ram-length) sound (v .core .pc) even low (omega (arith, ends, six, small))
                 ∙ ap I.Long (ap₂ (λ (x y : ℕ). x * 2 ^ 16 + y) (sym (code-word (j + 4) (omega (arith, ends, six, low)))) (sym (code-word (j + 2) (omega (arith, ends, six, low)))) ∙ long)

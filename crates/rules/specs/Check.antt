@@ -10,62 +10,66 @@ use Rattle.memory.specs.Processor.{Processor}
 use Rattle.rules.specs.declared.Range.{Range}
 use Rattle.rules.specs.declared.Verdict.{Verdict}
 use Rattle.rules.specs.declared.Verdict.the-variants.{Admitted, RamLength, CodeLength, NotBuilt, JrTarget, JumpTarget, DelaySlot, Ending, Access}
-use Rattle.rules.specs.Reading.{Item, unbuilt, built, Shape, other, movei, movepc, jr, jump, load, store, shapeOf, endOf, itemAt, shapeAt, after, Hit, clear, hit, found, firstBad}
+use Rattle.rules.specs.declared.Item.{Item}
+use Rattle.rules.specs.declared.Item.the-variants.{Unbuilt, Built}
+use Rattle.rules.specs.declared.Shape.{Shape}
+use Rattle.rules.specs.declared.Shape.the-variants.{Other, Movei, MovePc, Jr, Jump, Load, Store}
+use Rattle.rules.specs.Reading.{shapeOf, endOf, itemAt, shapeAt, after, Hit, clear, hit, found, firstBad}
 use Rattle.rules.specs.Known.{unknown, addressRange, isExactly, transferOf}
 
 abbrev pub isBuilt : Item → Bool
-isBuilt unbuilt = false
-isBuilt (built c v) = true
+isBuilt Unbuilt = false
+isBuilt (Built c v) = true
 
 -- a JR or JUMP
 abbrev pub jumps : Shape → Bool
-jumps other = false
-jumps (movei d v) = false
-jumps movepc = false
-jumps (jr n c) = true
-jumps (jump r c) = true
-jumps (load m) = false
-jumps (store m) = false
+jumps Other = false
+jumps (Movei d v) = false
+jumps MovePc = false
+jumps (Jr n c) = true
+jumps (Jump r c) = true
+jumps (Load m) = false
+jumps (Store m) = false
 
 -- rule 4's "JR, JUMP, MOVEI or MOVE PC"
 abbrev pub breaksSlot : Shape → Bool
-breaksSlot other = false
-breaksSlot (movei d v) = true
-breaksSlot movepc = true
-breaksSlot (jr n c) = true
-breaksSlot (jump r c) = true
-breaksSlot (load m) = false
-breaksSlot (store m) = false
+breaksSlot Other = false
+breaksSlot (Movei d v) = true
+breaksSlot MovePc = true
+breaksSlot (Jr n c) = true
+breaksSlot (Jump r c) = true
+breaksSlot (Load m) = false
+breaksSlot (Store m) = false
 
 -- rule 5's "JR or JUMP with condition 0"
 abbrev pub always : Shape → Bool
-always other = false
-always (movei d v) = false
-always movepc = false
-always (jr n c) = eqb c 0
-always (jump r c) = eqb c 0
-always (load m) = false
-always (store m) = false
+always Other = false
+always (Movei d v) = false
+always MovePc = false
+always (Jr n c) = eqb c 0
+always (Jump r c) = eqb c 0
+always (Load m) = false
+always (Store m) = false
 
 -- the instruction before was a MOVEI into r, of a value that the test lets through
 abbrev pub holds : Shape → ℕ → (ℕ → Bool) → Bool
-holds other r f = false
-holds (movei d v) r f = eqb d r && f v
-holds movepc r f = false
-holds (jr n c) r f = false
-holds (jump s c) r f = false
-holds (load m) r f = false
-holds (store m) r f = false
+holds Other r f = false
+holds (Movei d v) r f = eqb d r && f v
+holds MovePc r f = false
+holds (Jr n c) r f = false
+holds (Jump s c) r f = false
+holds (Load m) r f = false
+holds (Store m) r f = false
 
 -- a jump at a, after an instruction of the shape p, has the target t
 abbrev pub leads : ℕ → Shape → Shape → ℕ → Bool
-leads a p other t = false
-leads a p (movei d v) t = false
-leads a p movepc t = false
-leads a p (jr n c) t = eqb (jrTargetOf a (signedFieldOf n)) t
-leads a p (jump r c) t = holds p r (λ v. eqb v t)
-leads a p (load m) t = false
-leads a p (store m) t = false
+leads a p Other t = false
+leads a p (Movei d v) t = false
+leads a p MovePc t = false
+leads a p (Jr n c) t = eqb (jrTargetOf a (signedFieldOf n)) t
+leads a p (Jump r c) t = holds p r (λ v. eqb v t)
+leads a p (Load m) t = false
+leads a p (Store m) t = false
 
 -- by both ends of its range in RAM from an address on, or one exact built register; and a multiple of 4
 abbrev pub within : Processor → ℕ → Range → Bool
@@ -78,10 +82,10 @@ module _ (P : Processor) (code : List ℕ) where
   before a p = itemAt P code a
 
   unfoldable pub isStart : ℕ → Bool
-  isStart t = found (firstBad P code Item unbuilt before (λ a p. not (eqb a t)))
+  isStart t = found (firstBad P code Item Unbuilt before (λ a p. not (eqb a t)))
 
   unfoldable pub isTarget : ℕ → Bool
-  isTarget t = found (firstBad P code Item unbuilt before (λ a p. not (leads a (shapeOf p) (shapeAt P code a) t)))
+  isTarget t = found (firstBad P code Item Unbuilt before (λ a p. not (leads a (shapeOf p) (shapeAt P code a) t)))
 
   -- "At the first instruction, at each target, […] all are 0 to 2^32−1 and no."
   unfoldable pub learn : ℕ → List Range → List Range
@@ -91,25 +95,25 @@ module _ (P : Processor) (code : List ℕ) where
   ok1 a p = isBuilt (itemAt P code a) && leb (after P code a) (endOf P code)
 
   abbrev pub jrOk : ℕ → Shape → Bool
-  jrOk a other = true
-  jrOk a (movei d v) = true
-  jrOk a movepc = true
-  jrOk a (jr n c) = isStart (jrTargetOf a (signedFieldOf n))
-  jrOk a (jump r c) = true
-  jrOk a (load m) = true
-  jrOk a (store m) = true
+  jrOk a Other = true
+  jrOk a (Movei d v) = true
+  jrOk a MovePc = true
+  jrOk a (Jr n c) = isStart (jrTargetOf a (signedFieldOf n))
+  jrOk a (Jump r c) = true
+  jrOk a (Load m) = true
+  jrOk a (Store m) = true
 
   unfoldable pub ok2 : ℕ → Item → Bool
   ok2 a p = jrOk a (shapeAt P code a)
 
   abbrev pub jumpOk : ℕ → Shape → Shape → Bool
-  jumpOk a p other = true
-  jumpOk a p (movei d v) = true
-  jumpOk a p movepc = true
-  jumpOk a p (jr n c) = true
-  jumpOk a p (jump r c) = holds p r isStart && not (isTarget a)
-  jumpOk a p (load m) = true
-  jumpOk a p (store m) = true
+  jumpOk a p Other = true
+  jumpOk a p (Movei d v) = true
+  jumpOk a p MovePc = true
+  jumpOk a p (Jr n c) = true
+  jumpOk a p (Jump r c) = holds p r isStart && not (isTarget a)
+  jumpOk a p (Load m) = true
+  jumpOk a p (Store m) = true
 
   unfoldable pub ok3 : ℕ → Item → Bool
   ok3 a p = jumpOk a (shapeOf p) (shapeAt P code a)
@@ -122,20 +126,20 @@ module _ (P : Processor) (code : List ℕ) where
   ok5 a p = not (eqb (after P code a) (endOf P code)) || (always (shapeOf p) && not (isTarget a))
 
   abbrev pub accessOk : List Range → Shape → Bool
-  accessOk k other = true
-  accessOk k (movei d v) = true
-  accessOk k movepc = true
-  accessOk k (jr n c) = true
-  accessOk k (jump r c) = true
-  accessOk k (load m) = within P (P .base) (addressRange k m)
-  accessOk k (store m) = within P (endOf P code) (addressRange k m)
+  accessOk k Other = true
+  accessOk k (Movei d v) = true
+  accessOk k MovePc = true
+  accessOk k (Jr n c) = true
+  accessOk k (Jump r c) = true
+  accessOk k (Load m) = within P (P .base) (addressRange k m)
+  accessOk k (Store m) = within P (endOf P code) (addressRange k m)
 
   unfoldable pub ok6 : ℕ → List Range → Bool
   ok6 a k = accessOk k (shapeAt P code a)
 
   -- the first instruction that breaks a rule
   abbrev pub first : (ℕ → Item → Bool) → Hit
-  first test = firstBad P code Item unbuilt before test
+  first test = firstBad P code Item Unbuilt before test
 
   abbrev pub firstAccess : Hit
   firstAccess = firstBad P code (List Range) unknown learn ok6

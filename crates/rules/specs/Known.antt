@@ -10,7 +10,8 @@ use Rattle.class.specs.declared.Class.{Class}
 use Rattle.class.specs.declared.Class.the-variants as C
 use Rattle.memory.specs.Processor.{Processor}
 use Rattle.rules.specs.declared.Range.{Range}
-use Rattle.rules.specs.Reading.{Item, unbuilt, built}
+use Rattle.rules.specs.declared.Item.{Item}
+use Rattle.rules.specs.declared.Item.the-variants.{Unbuilt, Built}
 
 -- the highest register content
 abbrev pub most : ℕ
@@ -86,5 +87,5 @@ module _ (P : Processor) where
   transfer (C.Jr n c) v k = k
 
   unfoldable pub transferOf : Item → List Range → List Range
-  transferOf unbuilt k = k
-  transferOf (built c v) k = transfer c v k
+  transferOf Unbuilt k = k
+  transferOf (Built c v) k = transfer c v k

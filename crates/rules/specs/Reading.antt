@@ -11,62 +11,52 @@ use Rattle.class.specs.declared.Address.{Address}
 use Rattle.class.specs.declared.Class.{Class}
 use Rattle.class.specs.declared.Class.the-variants as C
 use Rattle.class.specs.Classes.{classOf}
+use Rattle.rules.specs.declared.Item.{Item}
+use Rattle.rules.specs.declared.Item.the-variants.{Unbuilt, Built}
+use Rattle.rules.specs.declared.Shape.{Shape}
+use Rattle.rules.specs.declared.Shape.the-variants.{Other, Movei, MovePc, Jr, Jump, Load, Store}
 use Rattle.memory.specs.Processor.{Processor}
 use Rattle.memory.specs.Memory.{wordAt}
 
--- What stands at an address: no built word, or an instruction of a class, with the long that follows it.
-pub data Item : Type 0 where
-  unbuilt : Item
-  built : Class → ℕ → Item
-
+-- What stands at an address.
 abbrev pub itemIn : Decoded → ℕ → Item
-itemIn (D.Built i) long = built (classOf i) long
-itemIn D.NotBuilt long = unbuilt
+itemIn (D.Built i) long = Built (classOf i) long
+itemIn D.NotBuilt long = Unbuilt
 
 -- "MOVEI is followed by the low word, then the high word."
 unfoldable pub itemOf : List ℕ → ℕ → Item
 itemOf code i = itemIn (decodeOf (wordAt code i)) (wordAt code (i + 4) * 2 ^ 16 + wordAt code (i + 2))
 
--- What rules 2 to 6 ask of an instruction. A MOVEI has its register and its value, a JR its field and condition, a JUMP its
--- register and condition, and an access its address.
-pub data Shape : Type 0 where
-  other : Shape
-  movei : ℕ → ℕ → Shape
-  movepc : Shape
-  jr : ℕ → ℕ → Shape
-  jump : ℕ → ℕ → Shape
-  load : Address → Shape
-  store : Address → Shape
-
+-- What rules 2 to 6 ask of it.
 abbrev pub shapeIn : Class → ℕ → Shape
-shapeIn C.Quiet v = other
-shapeIn (C.Write d) v = other
-shapeIn (C.Moveq n d) v = other
-shapeIn (C.Movei d) v = movei d v
-shapeIn (C.Move s d) v = other
-shapeIn (C.And s d) v = other
-shapeIn (C.Add s d) v = other
-shapeIn (C.AddQuick n d) v = other
-shapeIn (C.SubQuick n d) v = other
-shapeIn (C.Shlq n d) v = other
-shapeIn (C.Load m d) v = load m
-shapeIn (C.Store m d) v = store m
-shapeIn (C.MovePc d) v = movepc
-shapeIn (C.Jump s c) v = jump s c
-shapeIn (C.Jr n c) v = jr n c
+shapeIn C.Quiet v = Other
+shapeIn (C.Write d) v = Other
+shapeIn (C.Moveq n d) v = Other
+shapeIn (C.Movei d) v = Movei d v
+shapeIn (C.Move s d) v = Other
+shapeIn (C.And s d) v = Other
+shapeIn (C.Add s d) v = Other
+shapeIn (C.AddQuick n d) v = Other
+shapeIn (C.SubQuick n d) v = Other
+shapeIn (C.Shlq n d) v = Other
+shapeIn (C.Load m d) v = Load m
+shapeIn (C.Store m d) v = Store m
+shapeIn (C.MovePc d) v = MovePc
+shapeIn (C.Jump s c) v = Jump s c
+shapeIn (C.Jr n c) v = Jr n c
 
 abbrev pub shapeOf : Item → Shape
-shapeOf unbuilt = other
-shapeOf (built c v) = shapeIn c v
+shapeOf Unbuilt = Other
+shapeOf (Built c v) = shapeIn c v
 
 abbrev pub bytesOf : Shape → ℕ
-bytesOf other = 2
-bytesOf (movei d v) = 6
-bytesOf movepc = 2
-bytesOf (jr n c) = 2
-bytesOf (jump r c) = 2
-bytesOf (load m) = 2
-bytesOf (store m) = 2
+bytesOf Other = 2
+bytesOf (Movei d v) = 6
+bytesOf MovePc = 2
+bytesOf (Jr n c) = 2
+bytesOf (Jump r c) = 2
+bytesOf (Load m) = 2
+bytesOf (Store m) = 2
 
 module _ (P : Processor) (code : List ℕ) where
   -- the first address behind the code

@@ -9,14 +9,18 @@ use Rattle.isa.specs.Fields.{signedFieldOf}
 use Rattle.alu.specs.Jump.{jrTargetOf}
 use Rattle.memory.specs.Processor.{Processor}
 use Rattle.rules.specs.declared.Range.{Range}
-use Rattle.rules.specs.Reading.{Item, unbuilt, Shape, movei, jr, jump, load, store, shapeOf, endOf, itemAt, shapeAt, after, Reads}
+use Rattle.rules.specs.declared.Item.{Item}
+use Rattle.rules.specs.declared.Item.the-variants.{Unbuilt}
+use Rattle.rules.specs.declared.Shape.{Shape}
+use Rattle.rules.specs.declared.Shape.the-variants.{Movei, Jr, Jump, Load, Store}
+use Rattle.rules.specs.Reading.{shapeOf, endOf, itemAt, shapeAt, after, Reads}
 use Rattle.rules.specs.Known.{unknown, addressRange}
 use Rattle.rules.specs.Check.{jumps, breaksSlot, always, before, learn}
 
 module _ (P : Processor) (code : List ℕ) where
   -- a is the address of an instruction as the code is read straight through, and p stands directly before it
   pub record IsInstruction (a : ℕ) (p : Item) : Type 0 where
-    pub read : Reads P code Item unbuilt (before P code) a p
+    pub read : Reads P code Item Unbuilt (before P code) a p
     pub inside : a < endOf P code
 
   -- 01's "instruction start"
@@ -26,8 +30,8 @@ module _ (P : Processor) (code : List ℕ) where
 
   -- 01's "target": of a JR, or the value of a MOVEI that a JUMP through the same register directly follows
   pub data Leads (a : ℕ) (p : Item) (t : ℕ) : Type 0 where
-    by-jr : (n c : ℕ) → shapeAt P code a ≡ jr n c → jrTargetOf a (signedFieldOf n) ≡ t → Leads a p t
-    by-jump : (r c : ℕ) → shapeAt P code a ≡ jump r c → shapeOf p ≡ movei r t → Leads a p t
+    by-jr : (n c : ℕ) → shapeAt P code a ≡ Jr n c → jrTargetOf a (signedFieldOf n) ≡ t → Leads a p t
+    by-jump : (r c : ℕ) → shapeAt P code a ≡ Jump r c → shapeOf p ≡ Movei r t → Leads a p t
 
   pub record IsTarget (t : ℕ) : Type 0 where
     pub from : ℕ
@@ -53,16 +57,16 @@ module _ (P : Processor) (code : List ℕ) where
 
   -- 1. "all instructions are built and the last ends exactly at C."
   abbrev pub Rule1 : ℕ → Item → Type 0
-  Rule1 a p = (itemAt P code a ≡ unbuilt → ⊥) × (after P code a ≤ endOf P code)
+  Rule1 a p = (itemAt P code a ≡ Unbuilt → ⊥) × (after P code a ≤ endOf P code)
 
   -- 2. "Every JR target, taken or not, is an instruction start in the code."
   abbrev pub Rule2 : ℕ → Item → Type 0
-  Rule2 a p = (n c : ℕ) → shapeAt P code a ≡ jr n c → IsStart (jrTargetOf a (signedFieldOf n))
+  Rule2 a p = (n c : ℕ) → shapeAt P code a ≡ Jr n c → IsStart (jrTargetOf a (signedFieldOf n))
 
   -- 3. "A JUMP directly follows a MOVEI into its own register of an instruction start in the code. No target […] is a JUMP"
   abbrev pub Rule3 : ℕ → Item → Type 0
   Rule3 a p =
-      (r c : ℕ) → shapeAt P code a ≡ jump r c → ((v : ℕ) × (shapeOf p ≡ movei r v) × IsStart v) × (IsTarget a → ⊥)
+      (r c : ℕ) → shapeAt P code a ≡ Jump r c → ((v : ℕ) × (shapeOf p ≡ Movei r v) × IsStart v) × (IsTarget a → ⊥)
 
   -- 4. "Each JR and JUMP has an instruction after it, which is not JR, JUMP, MOVEI or MOVE PC."
   abbrev pub Rule4 : ℕ → Item → Type 0
@@ -76,7 +80,7 @@ module _ (P : Processor) (code : List ℕ) where
   -- 6. "the allowed RAM (all of it for LOAD, the data window for STORE)"; the data window is RAM behind the code
   abbrev pub Rule6 : ℕ → List Range → Type 0
   Rule6 a k =
-      ((m : Address) → shapeAt P code a ≡ load m → Reaches (P .base) (addressRange k m)) × ((m : Address) → shapeAt P code a ≡ store m → Reaches (endOf P code) (addressRange k m))
+      ((m : Address) → shapeAt P code a ≡ Load m → Reaches (P .base) (addressRange k m)) × ((m : Address) → shapeAt P code a ≡ Store m → Reaches (endOf P code) (addressRange k m))
 
   -- a rule that an instruction can be held to holds of every one
   abbrev pub Everywhere : (ℕ → Item → Type 0) → Type 0
