@@ -9,3 +9,4 @@ pub mod Fetching
 pub mod Access
 pub mod Step
 pub mod Demand
+pub mod Examples

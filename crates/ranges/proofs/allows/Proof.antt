@@ -1,0 +1,18 @@
+-- `allows` meets its contract: the tests of a place are the definition's.
+-- Assumes nothing.
+use borrow.Author.Needs.{needs}
+use Rattle.ranges.proofs.allows.Statement.{statement}
+use Rattle.ranges.proofs.allows.Tie as tie
+
+returns : tie.Need-returns
+returns c = rw (c .both .ensures, c .before .either .ensures, c .before .before .is-register .ensures, c .before .before .before .is-inside .ensures)
+
+pub allows-spec : {M : Type 1} → statement M
+allows-spec =
+    tie.close
+    (tie.spec
+    (λ c κs. search needs)
+    (λ c κs. search needs)
+    (λ c κs. search needs)
+    (λ c κs. search needs)
+    returns)

@@ -1,0 +1,15 @@
+-- What every range of the check has: its ends in order.
+use Prim.Native.Nat.{ℕ, _≤_}
+use mathlib.Core.Path.{_≡_}
+use mathlib.Core.List.{List}
+use lib.ListN.{length}
+use Rattle.rules.specs.declared.Range.{Range}
+use Rattle.rules.specs.Known.{rangeAt}
+
+abbrev pub Ordered : Range → Type 0
+Ordered x = x .low ≤ x .high
+
+-- 32 ranges, each with its ends in order
+pub record AllOrdered (k : List Range) : Type 0 where
+  pub count : length k ≡ 32
+  pub ordered : (r : ℕ) → Ordered (rangeAt k r)
