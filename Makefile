@@ -20,13 +20,13 @@ rows: ## run the published rows and the further vectors through the compiled fun
 	@mkdir -p target; rt check vectors >target/check.log 2>&1 || { cat target/check.log; exit 1; }
 	@target/bin/vectors
 
-kiosk: target/kiosk ## run an image frame by frame as the kiosk does: IMAGE=FILE, as for run
-	@python3 tools/image.py "$(IMAGE)" >target/image.bin && target/kiosk target/image.bin
+kiosk: target/kiosk ## run an image frame by frame as the kiosk does: IMAGE=FILE, as for run; checked first with LENGTH=BYTES
+	@python3 tools/image.py "$(IMAGE)" >target/image.bin && target/kiosk target/image.bin $(LENGTH)
 
 test: ## the whole gate: proofs, must-fail edits, programs, tests
 	@.ci/run
 
-tests: target/differential target/kiosk ## the tests over what is built already
+tests: target/differential target/loading target/kiosk ## the tests over what is built already
 	@tests/run
 
 bench: target/bench ## time a run beside a plain C interpreter
@@ -45,6 +45,9 @@ $(ARCHIVE):
 
 target/differential: $(DIFFERENTIAL) $(ARCHIVE)
 	$(CC) $(CFLAGS) $(DIFFERENTIAL) $(ARCHIVE) -o $@
+
+target/loading: $(wildcard tests/loading/*.[ch]) $(ARCHIVE)
+	$(CC) $(CFLAGS) -Itests/loading tests/loading/*.c $(ARCHIVE) -o $@
 
 target/bench: bench/bench.c bench/interpreter.c $(ARCHIVE)
 	$(CC) $(CFLAGS) bench/bench.c bench/interpreter.c $(ARCHIVE) -o $@

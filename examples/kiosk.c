@@ -1,10 +1,11 @@
-/* A kiosk in small: runs an image frame by frame and says in plain words how it ended.
+/* A kiosk in small: checks an image, runs it frame by frame, and says in plain words how it ended and what to do.
 
-   kiosk IMAGE [FRAMES]
+   kiosk IMAGE [LENGTH [FRAMES]]
 
-   IMAGE is a file of 4,096 bytes, the whole local RAM, with the program at its start. At most FRAMES frames are run, by
-   default 100. The program ends with 0 if the image stopped itself or used up its frames, with 1 on a fault, and with 2
-   if there was nothing to run. */
+   IMAGE is a file of 4,096 bytes, the whole local RAM, with the program at its start. LENGTH is how many bytes of it are
+   the program; with it the loading check comes first, and a program that it refuses is not run. At most FRAMES frames are
+   run, by default 100. The program ends with 0 if the image stopped itself or used up its frames, with 1 on a fault, and
+   with 2 if there was nothing to run. */
 
 #include <inttypes.h>
 #include <stdio.h>
@@ -62,10 +63,28 @@ static void show_state(void)
     show_bank("bank 1, R0 to R31", GPU_BLOCK_BANK1);
 }
 
-/* Every answer of gpu_run has its sentence. */
+/* Every answer has its sentence, and a refused program one that says what to do. */
 static const char *sentence(unsigned answer)
 {
     switch (answer) {
+    case GPU_RULE_1:
+        return "The program was refused: the word there is no instruction. See that the whole file was copied, and that the "
+               "length is that of the program.";
+    case GPU_RULE_2:
+        return "The program was refused: the jump there goes to no instruction. Ask its author for another target.";
+    case GPU_RULE_3:
+        return "The program was refused: the JUMP there must directly follow the MOVEI of its own register, with the address "
+               "of an instruction, and no other jump may go to it. Ask its author to put the two together.";
+    case GPU_RULE_4:
+        return "The program was refused: the jump there needs a plain instruction after it. Ask its author to add a NOP.";
+    case GPU_RULE_5:
+        return "The program was refused: it must end with a jump without condition and one more instruction. See that the "
+               "length is that of the program, or ask its author to add them.";
+    case GPU_RULE_6:
+        return "The program was refused: it can not be seen that the LOAD or STORE there stays where it may. Ask its author to "
+               "set the address with a MOVEI just before it.";
+    case GPU_CODE_LENGTH_WRONG:
+        return "The length was refused: give a number from 4 to 4096 that is a multiple of 4.";
     case GPU_BUDGET_SPENT:
         return "The program is still running, and its frames are used up.";
     case GPU_STOPPED:
@@ -101,23 +120,35 @@ static int exit_status(unsigned answer)
     return answer >= GPU_RAM_LENGTH_WRONG ? 2 : 1;
 }
 
-/* Gives the number of frames, or 0 if the text is no number from 1 to MOST_FRAMES. */
-static unsigned long frames_from(const char *text)
+/* Gives a number from 1 to `most`, or 0 if the text is none. */
+static unsigned long number_from(const char *text, unsigned long most)
 {
     char *end;
-    unsigned long frames = strtoul(text, &end, 10);
-    return text[0] == '-' || *end != '\0' || frames > MOST_FRAMES ? 0 : frames;
+    unsigned long number = strtoul(text, &end, 10);
+    return text[0] == '-' || *end != '\0' || number > most ? 0 : number;
 }
 
 int main(int argc, char **argv)
 {
-    unsigned long frames = argc > 2 ? frames_from(argv[2]) : DEFAULT_FRAMES;
-    if (argc < 2 || argc > 3 || frames == 0) {
-        fprintf(stderr, "usage: kiosk IMAGE [FRAMES], with 1 to %d frames\n", MOST_FRAMES);
+    unsigned long frames = argc > 3 ? number_from(argv[3], MOST_FRAMES) : DEFAULT_FRAMES;
+    if (argc < 2 || argc > 4 || frames == 0) {
+        fprintf(stderr, "usage: kiosk IMAGE [LENGTH [FRAMES]], with 1 to %d frames\n", MOST_FRAMES);
         return 2;
     }
 
     size_t length = load_image(argv[1]);
+    if (argc > 2) {
+        uint64_t reply = gpu_check(ram, length, number_from(argv[2], GPU_RAM_LENGTH));
+        if (gpu_answer(reply) != 0) {
+            printf("%s\n", sentence(gpu_answer(reply)));
+            printf("answer %u at %08" PRIX32 "\n", gpu_answer(reply), gpu_address(reply));
+            return 2;
+        }
+        printf("The program was checked: it runs without a fault and keeps its code.\n");
+    } else {
+        printf("The program was not checked. Give the length of its code to have it checked.\n");
+    }
+
     unsigned answer = GPU_BUDGET_SPENT;
     unsigned long frame = 0;
     uint64_t steps = 0;

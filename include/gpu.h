@@ -65,9 +65,18 @@ enum {
     GPU_ADDRESS_OUTSIDE = 14,    /* it loads or stores neither in RAM nor at one of the three chip registers */
     GPU_JUMP_IS_PENDING = 15,    /* it is a JR, JUMP, MOVEI or MOVE PC, and follows a taken jump */
 
+    /* A refusal of gpu_check: the program breaks a loading rule. */
+    GPU_RULE_1 = 21, /* a word is not built, or the last instruction does not end with the code */
+    GPU_RULE_2 = 22, /* a JR goes to no instruction start in the code */
+    GPU_RULE_3 = 23, /* a JUMP does not directly follow a MOVEI into its own register of an instruction start, or is a target */
+    GPU_RULE_4 = 24, /* a JR or JUMP is last, or is followed by a JR, JUMP, MOVEI or MOVE PC */
+    GPU_RULE_5 = 25, /* the code does not end with a JR or JUMP with condition 0 and one more instruction that is no target */
+    GPU_RULE_6 = 26, /* a LOAD or STORE is not known to reach what it may reach */
+
     /* A refusal: the call itself is wrong. */
     GPU_RAM_LENGTH_WRONG = 31,  /* ram_len is not GPU_RAM_LENGTH */
     GPU_BUDGET_TOO_LARGE = 32,  /* budget is above GPU_BUDGET_LIMIT */
+    GPU_CODE_LENGTH_WRONG = 33, /* code_len is not 4 to GPU_RAM_LENGTH, or not a multiple of 4 */
     GPU_BLOCK_WRONG = 34,       /* another status bit is set, or there is a target with no jump pending */
     GPU_BLOCK_LENGTH_WRONG = 35 /* block_len is not GPU_BLOCK_LENGTH */
 };
@@ -91,10 +100,27 @@ enum {
    them during the call; calls on other buffers may go on at the same time. */
 uint64_t gpu_run(uint8_t *ram, size_t ram_len, uint8_t *block, size_t block_len, uint64_t budget);
 
-/* The answer in a reply of gpu_run. */
+/* Checks the program in the first `code_len` bytes of `ram` before it is run, and changes nothing.
+
+   The reply is answer + 256 * address. Answer 0 admits the program: whatever data stands behind the code, whatever the
+   registers and flags, and whatever the budget, a run that starts at GPU_RAM_BASE, running and with no jump pending, then
+   answers 0 or 1 and never a fault, and the code stays as it is. A refusal tells the address of the instruction at fault,
+   or 0 for a wrong length. Where several refusals apply, the first of 31, 33, 21 to 26 is given, and for a rule the lowest
+   address.
+
+   `ram` must have `ram_len` bytes that may be read. Any code length may be asked for. */
+uint64_t gpu_check(const uint8_t *ram, size_t ram_len, uint64_t code_len);
+
+/* The answer in a reply of gpu_run or gpu_check. */
 static inline unsigned gpu_answer(uint64_t reply)
 {
     return (unsigned)(reply % 256);
+}
+
+/* The address in a reply of gpu_check. */
+static inline uint32_t gpu_address(uint64_t reply)
+{
+    return (uint32_t)(reply / 256);
 }
 
 /* The number of steps in a reply of gpu_run. */

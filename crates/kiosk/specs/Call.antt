@@ -7,6 +7,8 @@ use lib.ListN.{length}
 use Rattle.memory.specs.Processor.{gpu}
 use Rattle.memory.specs.Memory.{longAt}
 use Rattle.state.specs.Answers.{numberOf}
+use Rattle.rules.specs.declared.Verdict.{Verdict}
+use Rattle.rules.specs.Verdicts as verdicts
 use Rattle.machine.specs.Run.{Result, runOf, budgetLimit}
 use Rattle.kiosk.specs.Block.{blockLength, validOf, stateAt, putState}
 
@@ -34,3 +36,7 @@ callOf ram block budget =
     (called 34 ram block))
     (called 35 ram block))
     (called 31 ram block)
+
+-- The check's reply: answer + 256 × address.
+abbrev pub checkReply : Verdict → ℕ
+checkReply v = verdicts.numberOf v + 256 * verdicts.addressOf v

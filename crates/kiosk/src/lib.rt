@@ -1,6 +1,10 @@
-// The run as the kiosk's C program calls it: RAM, a state block of 69 longs, high byte first, and a budget.
+// The run and the loading check as the kiosk's C program calls them. A run takes RAM, a state block of 69 longs, high byte
+// first, and a budget.
 ghost use mathlib.Core.Path.{_≡_};
-ghost use Rattle.kiosk.specs.Call.{called, callOf};
+ghost use Rattle.memory.specs.Processor.{gpu};
+ghost use Rattle.rules.specs.Check.{checkOf};
+ghost use Rattle.kiosk.specs.Call.{called, callOf, checkReply};
+use loading::check;
 use machine::run;
 use memory::long_at;
 
@@ -28,4 +32,12 @@ pub extern "C" fn gpu_run(ram: &mut [u8], block: &mut [u8], budget: u64) -> u64
     let answer = r.answer;
     block::write(block, after);
     answer.number() as u64 + 256 * r.steps as u64
+}
+
+#[no_mangle]
+pub extern "C" fn gpu_check(ram: &[u8], code_len: u64) -> u64
+    ensures { λ r. ⌜ r ≡ checkReply (checkOf gpu (now (ram .entry)) «code_len») ⌝ }
+{
+    let v = check(ram, code_len);
+    v.number() as u64 + 256 * v.address() as u64
 }

@@ -1,0 +1,21 @@
+-- `gpu_check` meets its contract.
+-- Assumes nothing.
+use borrow.Author.Needs.{needs}
+use Rattle.kiosk.proofs.gpu_check.Statement.{statement}
+use Rattle.kiosk.proofs.gpu_check.Tie as tie
+
+returns : tie.Need-returns
+returns c = rw (c .address .ensures, c .before .number .ensures, c .before .before .check .ensures .0)
+
+pub gpu-check-spec : {M : Type 1} → statement M
+gpu-check-spec =
+    tie.close
+    (tie.spec
+    (λ c κs. search needs)
+    (λ c κs. search needs)
+    (λ c. search needs)
+    (λ c κs. search needs)
+    (λ c. search needs)
+    (λ c. search needs)
+    (λ c. search needs)
+    returns)

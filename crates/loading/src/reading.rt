@@ -1,0 +1,84 @@
+// What stands at an offset of the code. A byte behind the end reads as 0, so that every offset has an item.
+ghost use mathlib.Core.Path.{_≡_};
+ghost use Prim.Native.Nat.{_≤_, _<_};
+ghost use lib.ListN.{length, getD};
+ghost use Rattle.memory.specs.Memory.{wordAt};
+ghost use Rattle.rules.specs.Reading.{itemOf, shapeIn, shapeOf, bytesOf};
+use class::Class;
+use class::class_of;
+use isa::Decoded;
+use isa::decode;
+use memory::wide;
+use rules::Item;
+use rules::Shape;
+
+fn byte(code: &[u8], i: usize) -> u32
+    ensures { λ r. ⌜ (r ≡ getD (now (code .entry)) i 0) × (r < 256) ⌝ }
+{
+    if i < code.len() { wide(code[i]) } else { 0 }
+}
+
+fn word_at(code: &[u8], i: usize) -> u32
+    requires { ⌜ i < 65536 ⌝ }
+    ensures { λ r. ⌜ (r ≡ wordAt (now (code .entry)) i) × (r < 65536) ⌝ }
+{
+    byte(code, i) * 256 + byte(code, i + 1)
+}
+
+pub fn item_at(code: &[u8], i: usize) -> Item
+    requires { ⌜ i < 8192 ⌝ }
+    ensures { λ r. ⌜ r ≡ itemOf (now (code .entry)) i ⌝ }
+{
+    let word = word_at(code, i) as u16;
+    let long = word_at(code, i + 4) * 65536 + word_at(code, i + 2);
+    let d = decode(word);
+    match d {
+        Decoded::NotBuilt => Item::Unbuilt,
+        Decoded::Built(instruction) => Item::Built(class_of(instruction), long),
+    }
+}
+
+pub fn shape_of(t: Item) -> Shape
+    ensures { λ r. ⌜ r ≡ shapeOf t ⌝ }
+{
+    match t {
+        Item::Unbuilt => Shape::Other,
+        Item::Built(c, v) => shape_in(c, v),
+    }
+}
+
+fn shape_in(c: Class, v: u32) -> Shape
+    ensures { λ r. ⌜ r ≡ shapeIn c v ⌝ }
+{
+    match c {
+        Class::Quiet => Shape::Other,
+        Class::Write(_) => Shape::Other,
+        Class::Moveq(_, _) => Shape::Other,
+        Class::Movei(d) => Shape::Movei(d, v),
+        Class::Move(_, _) => Shape::Other,
+        Class::And(_, _) => Shape::Other,
+        Class::Add(_, _) => Shape::Other,
+        Class::AddQuick(_, _) => Shape::Other,
+        Class::SubQuick(_, _) => Shape::Other,
+        Class::Shlq(_, _) => Shape::Other,
+        Class::Load(m, _) => Shape::Load(m),
+        Class::Store(m, _) => Shape::Store(m),
+        Class::MovePc(_) => Shape::MovePc,
+        Class::Jump(s, c) => Shape::Jump(s, c),
+        Class::Jr(n, c) => Shape::Jr(n, c),
+    }
+}
+
+pub fn size(s: Shape) -> usize
+    ensures { λ r. ⌜ (r ≡ bytesOf s) × (2 ≤ r) × (r ≤ 6) ⌝ }
+{
+    match s {
+        Shape::Other => 2,
+        Shape::Movei(_, _) => 6,
+        Shape::MovePc => 2,
+        Shape::Jr(_, _) => 2,
+        Shape::Jump(_, _) => 2,
+        Shape::Load(_) => 2,
+        Shape::Store(_) => 2,
+    }
+}
