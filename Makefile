@@ -4,7 +4,7 @@ ARCHIVE = target/staticlib/libkiosk.a
 IMAGE = examples/card.words
 DIFFERENTIAL = $(wildcard tests/differential/*.c) bench/interpreter.c
 
-.PHONY: help run rows kiosk test tests bench instructions check
+.PHONY: help run loadcheck rows kiosk test tests bench instructions check
 
 help: ## list these commands
 	@grep -E '^[a-z]+:.*##' Makefile | sed 's/:.*## /\t/' | expand -t 14
@@ -15,6 +15,10 @@ run: ## run an image and print its card: IMAGE=FILE, of 4,096 bytes or a .words 
 	*.words) python3 tools/image.py "$(IMAGE)" | target/bin/run ;; \
 	*) target/bin/run <"$(IMAGE)" ;; \
 	esac
+
+loadcheck: ## check an image before it runs: IMAGE=FILE, as for run, and LENGTH=BYTES of code (default: paper 01's card)
+	@mkdir -p target; rt check loadcheck >target/check.log 2>&1 || { cat target/check.log; exit 1; }
+	@{ python3 tools/image.py "$(IMAGE)"; echo "$(or $(LENGTH),16)"; } | target/bin/loadcheck
 
 rows: ## run the published rows and the further vectors through the compiled functions
 	@mkdir -p target; rt check vectors >target/check.log 2>&1 || { cat target/check.log; exit 1; }
@@ -29,8 +33,9 @@ test: ## the whole gate: proofs, must-fail edits, programs, tests
 tests: target/differential target/loading target/kiosk ## the tests over what is built already
 	@tests/run
 
-bench: target/bench ## time a run beside a plain C interpreter
+bench: target/bench target/checkbench ## time a run beside a plain C interpreter, and the loading check
 	@target/bench
+	@target/checkbench
 
 instructions: target/bench ## count the instructions of a step, with valgrind
 	@bench/instructions
@@ -51,6 +56,9 @@ target/loading: $(wildcard tests/loading/*.[ch]) $(ARCHIVE)
 
 target/bench: bench/bench.c bench/interpreter.c $(ARCHIVE)
 	$(CC) $(CFLAGS) bench/bench.c bench/interpreter.c $(ARCHIVE) -o $@
+
+target/checkbench: bench/check.c $(ARCHIVE)
+	$(CC) $(CFLAGS) bench/check.c $(ARCHIVE) -o $@
 
 target/kiosk: examples/kiosk.c $(ARCHIVE)
 	$(CC) $(CFLAGS) examples/kiosk.c $(ARCHIVE) -o $@
