@@ -3,6 +3,8 @@
 ghost use mathlib.Core.Path.{_≡_};
 ghost use Rattle.memory.specs.Processor.{gpu};
 ghost use Rattle.rules.specs.Check.{checkOf};
+ghost use Rattle.rules.specs.Safety.{IsRam, IsState};
+ghost use Rattle.kiosk.specs.Block.{stateAt};
 ghost use Rattle.kiosk.specs.Call.{called, callOf, checkReply};
 use loading::check;
 use machine::run;
@@ -10,9 +12,11 @@ use memory::long_at;
 
 mod block;
 
+// The second promise: what demand 3 assumes of RAM and of a state is so in every call.
 #[no_mangle]
 pub extern "C" fn gpu_run(ram: &mut [u8], block: &mut [u8], budget: u64) -> u64
     ensures { λ r. ⌜ called r (now (ram .exit)) (now (block .exit)) ≡ callOf (now (ram .entry)) (now (block .entry)) budget ⌝ }
+    ensures { λ _. ⌜ IsRam (now (ram .entry)) × IsState (stateAt (now (block .entry))) ⌝ }
 {
     if ram.len() != 4096 {
         return 31;
