@@ -18,6 +18,7 @@ use Rattle.rules.specs.Known.{unknown, transferOf}
 use Rattle.rules.specs.Check.{isBuilt, jumps, breaksSlot, always, isTarget, learn, ok1, ok2, ok3, ok4, ok5, jrOk, jumpOk}
 use Rattle.rules.proofs.Booleans.{by}
 use Rattle.loading.specs.Passes.{Here}
+use Rattle.loading.proofs.Came.{item-at}
 
 -- A test of two offsets is that of their addresses.
 pub leb-base : (a b : ℕ) → leb (0xF03000 + a) (0xF03000 + b) ≡ leb a b
@@ -38,12 +39,6 @@ eqb-base a b =
     (λ t. eq-eqb (0xF03000 + a) (0xF03000 + b) (omega (arith, eqb-true a b t)) ∙ sym t)
     (λ t. ne-eqb (0xF03000 + a) (0xF03000 + b) (λ e. eqb-false a b t (omega arith)) ∙ sym t)
 
-pub item-base : (code : List ℕ) (i : ℕ) → itemAt gpu code (0xF03000 + i) ≡ itemOf code i
-unfolding itemAt
-item-base code i =
-    let e : 0xF03000 + i - 0xF03000 ≡ i = omega arith in
-    ap (itemOf code) e
-
 most-bytes : (s : Shape) → bytesOf s ≤ 6
 most-bytes Other = omega arith
 most-bytes (Movei d v) = omega arith
@@ -55,7 +50,7 @@ most-bytes (Store m) = omega arith
 
 module _ {code : List ℕ} {i : ℕ} {t : Item} (h : Here code i t) where
   pub item-here : itemAt gpu code (0xF03000 + i) ≡ t
-  item-here = item-base code i ∙ sym (h .same)
+  item-here = item-at code i ∙ sym (h .same)
 
   -- where the shape there was told to be s
   module _ {s : Shape} (told : s ≡ shapeOf t) (p : Item) where
@@ -70,7 +65,7 @@ module _ {code : List ℕ} {i : ℕ} {t : Item} (h : Here code i t) where
 
       pub ok4-here : ok4 gpu code (0xF03000 + i) p ≡ (not (jumps s) || (ltb (i + n) (length code) && not (breaksSlot (shapeOf (itemOf code (i + n))))))
       unfolding ok4
-      ok4-here = rw (item-here, ← told, ← e, sums, ltb-base, item-base)
+      ok4-here = rw (item-here, ← told, ← e, sums, ltb-base, item-at)
 
       pub ok5-here : ok5 gpu code (0xF03000 + i) p ≡ (not (eqb (i + n) (length code)) || (always (shapeOf p) && not (isTarget gpu code (0xF03000 + i))))
       unfolding ok5
