@@ -1,5 +1,1 @@
-pub mod From
-pub mod Came
-pub mod Marking
-pub mod Here
 pub mod Says

@@ -1,12 +1,15 @@
-// What rule 6 knows of the registers, as the code is read: ranges by value, and how an instruction changes them.
+// What rule 6 knows of the registers, as the code is read, and how an instruction changes it.
+//
+// The ranges of the registers stay where they are, with the pass over the code: an instruction says which registers it asks
+// for and which it writes, and what it does is told of those ranges alone. So none of the 32 is copied.
 ghost use mathlib.Core.Path.{_≡_};
-ghost use mathlib.Core.Bool.{cond, _&&_, _||_};
+ghost use mathlib.Core.Bool.{_&&_, _||_};
 ghost use Prim.Native.Nat.{_+_, min};
 ghost use lib.Dec.{leb, ltb};
-ghost use lib.ListN.{set};
 ghost use Rattle.memory.specs.Processor.{gpu};
-ghost use Rattle.rules.specs.Known.{full, unknown, rangeAt, exactly, andRange, sumRange, lessRange, shiftedRange, addressRange, isExactly, transfer};
+ghost use Rattle.rules.specs.Known.{full, unknown, exactly, andRange, sumRange, lessRange, shiftedRange, isExactly};
 ghost use Rattle.rules.specs.Check.{within};
+ghost use Rattle.ranges.specs.Operands.{three, operandsIn, operandsOf, reachOf, rangeAfter, accessOf, forgetsOf};
 ghost use Rattle.ranges.specs.Ordered.{Ordered, AllOrdered};
 use class::Address;
 use class::Class;
@@ -123,31 +126,6 @@ pub fn unknown_all() -> [Range; 32]
     [anything(); 32]
 }
 
-// What is known of register r; nothing, where there is no such register.
-pub fn range_at(k: [Range; 32], r: u32) -> Range
-    requires { ⌜ AllOrdered k ⌝ }
-    ensures { λ x. ⌜ (x ≡ rangeAt k r) × Ordered x ⌝ }
-{
-    if r < 32 {
-        let i = r as usize;
-        k[i]
-    } else {
-        anything()
-    }
-}
-
-// What is known of the address of a LOAD or STORE.
-pub fn address(k: [Range; 32], m: Address) -> Range
-    requires { ⌜ AllOrdered k ⌝ }
-    ensures { λ r. ⌜ (r ≡ addressRange k m) × Ordered r ⌝ }
-{
-    match m {
-        Address::At(r) => range_at(k, r),
-        Address::Offset(r, n) => sum(range_at(k, r), exact(n)),
-        Address::Indexed(r, s) => sum(range_at(k, r), range_at(k, s)),
-    }
-}
-
 fn is_exactly(x: Range, n: u32) -> bool
     ensures { λ r. ⌜ r ≡ isExactly x n ⌝ }
 {
@@ -176,51 +154,137 @@ pub fn allows(from: u32, x: Range) -> bool
     both(x.aligned, either(is_inside(from, x), is_register(x)))
 }
 
-// Register d gets the range x; nothing changes where there is no such register.
-fn put(k: [Range; 32], d: u32, x: Range) -> [Range; 32]
-    requires { ⌜ AllOrdered k × Ordered x ⌝ }
-    ensures { λ r. ⌜ (r ≡ set k d x) × AllOrdered r ⌝ }
+// The registers whose ranges an instruction asks for, and the register whose range it changes; 32 where there is none.
+pub struct Operands {
+    pub left: u32,
+    pub right: u32,
+    pub written: u32,
+}
+
+fn of(left: u32, right: u32, written: u32) -> Operands
+    ensures { λ r. ⌜ r ≡ three left right written ⌝ }
 {
-    let mut after = k;
-    if d < 32 {
-        let i = d as usize;
-        after[i] = x;
+    Operands {
+        left,
+        right,
+        written,
     }
-    after
+}
+
+// Those of an access, and the register that it writes.
+fn operands_in(m: Address, written: u32) -> Operands
+    ensures { λ r. ⌜ r ≡ operandsIn m written ⌝ }
+{
+    match m {
+        Address::At(r) => of(r, 32, written),
+        Address::Offset(r, _) => of(r, 32, written),
+        Address::Indexed(r, s) => of(r, s, written),
+    }
+}
+
+pub fn operands_of(c: Class) -> Operands
+    ensures { λ r. ⌜ r ≡ operandsOf c ⌝ }
+{
+    match c {
+        Class::Quiet => of(32, 32, 32),
+        Class::Write(d) => of(32, 32, d),
+        Class::Moveq(_, d) => of(32, 32, d),
+        Class::Movei(d) => of(32, 32, d),
+        Class::Move(s, d) => of(s, 32, d),
+        Class::And(s, d) => of(d, s, d),
+        Class::Add(s, d) => of(d, s, d),
+        Class::AddQuick(_, d) => of(d, 32, d),
+        Class::SubQuick(_, d) => of(d, 32, d),
+        Class::Shlq(_, d) => of(32, 32, d),
+        Class::Load(m, d) => operands_in(m, d),
+        Class::Store(m, _) => operands_in(m, 32),
+        Class::MovePc(d) => of(32, 32, d),
+        Class::Jump(_, _) => of(32, 32, 32),
+        Class::Jr(_, _) => of(32, 32, 32),
+    }
+}
+
+// What is known of the address of a LOAD or STORE, of whose registers x and y are known.
+fn reach(m: Address, x: Range, y: Range) -> Range
+    requires { ⌜ Ordered x × Ordered y ⌝ }
+    ensures { λ r. ⌜ r ≡ reachOf m x y ⌝ }
+{
+    match m {
+        Address::At(_) => x,
+        Address::Offset(_, n) => sum(x, exact(n)),
+        Address::Indexed(_, _) => sum(x, y),
+    }
+}
+
+// What is known of the register written, where v is the long that a MOVEI takes.
+pub fn range_after(c: Class, v: u32, x: Range, y: Range) -> Range
+    requires { ⌜ Ordered x × Ordered y ⌝ }
+    ensures { λ r. ⌜ (r ≡ rangeAfter c v x y) × Ordered r ⌝ }
+{
+    match c {
+        Class::Quiet => anything(),
+        Class::Write(_) => anything(),
+        Class::Moveq(n, _) => exact(n),
+        Class::Movei(_) => exact(v),
+        Class::Move(_, _) => x,
+        Class::And(_, _) => and(x, y),
+        Class::Add(_, _) => sum(x, y),
+        Class::AddQuick(n, _) => sum(x, exact(n)),
+        Class::SubQuick(n, _) => less(x, n),
+        Class::Shlq(n, _) => shifted(n),
+        Class::Load(_, _) => anything(),
+        Class::Store(_, _) => anything(),
+        Class::MovePc(_) => anything(),
+        Class::Jump(_, _) => anything(),
+        Class::Jr(_, _) => anything(),
+    }
+}
+
+// Rule 6 of an instruction in code that ends at an address: a LOAD reaches RAM or a built register, a STORE the same but the
+// code.
+pub fn access(end: u32, c: Class, x: Range, y: Range) -> bool
+    requires { ⌜ Ordered x × Ordered y ⌝ }
+    ensures { λ r. ⌜ r ≡ accessOf end c x y ⌝ }
+{
+    match c {
+        Class::Quiet => true,
+        Class::Write(_) => true,
+        Class::Moveq(_, _) => true,
+        Class::Movei(_) => true,
+        Class::Move(_, _) => true,
+        Class::And(_, _) => true,
+        Class::Add(_, _) => true,
+        Class::AddQuick(_, _) => true,
+        Class::SubQuick(_, _) => true,
+        Class::Shlq(_, _) => true,
+        Class::Load(m, _) => allows(0xF03000, reach(m, x, y)),
+        Class::Store(m, _) => allows(end, reach(m, x, y)),
+        Class::MovePc(_) => true,
+        Class::Jump(_, _) => true,
+        Class::Jr(_, _) => true,
+    }
 }
 
 // A STORE to the flags may change the bank: nothing is known of the other one.
-fn after_store(k: [Range; 32], m: Address) -> [Range; 32]
-    requires { ⌜ AllOrdered k ⌝ }
-    ensures { λ r. ⌜ (r ≡ cond (isExactly (addressRange k m) (gpu .flags)) unknown k) × AllOrdered r ⌝ }
-{
-    if is_exactly(address(k, m), 0xF02100) {
-        unknown_all()
-    } else {
-        k
-    }
-}
-
-// What is known after an instruction of the class c, where v is the long that a MOVEI takes.
-pub fn after_instruction(k: [Range; 32], c: Class, v: u32) -> [Range; 32]
-    requires { ⌜ AllOrdered k ⌝ }
-    ensures { λ r. ⌜ (r ≡ transfer gpu c v k) × AllOrdered r ⌝ }
+pub fn forgets(c: Class, x: Range, y: Range) -> bool
+    requires { ⌜ Ordered x × Ordered y ⌝ }
+    ensures { λ r. ⌜ r ≡ forgetsOf c x y ⌝ }
 {
     match c {
-        Class::Quiet => k,
-        Class::Write(d) => put(k, d, anything()),
-        Class::Moveq(n, d) => put(k, d, exact(n)),
-        Class::Movei(d) => put(k, d, exact(v)),
-        Class::Move(s, d) => put(k, d, range_at(k, s)),
-        Class::And(s, d) => put(k, d, and(range_at(k, d), range_at(k, s))),
-        Class::Add(s, d) => put(k, d, sum(range_at(k, d), range_at(k, s))),
-        Class::AddQuick(n, d) => put(k, d, sum(range_at(k, d), exact(n))),
-        Class::SubQuick(n, d) => put(k, d, less(range_at(k, d), n)),
-        Class::Shlq(n, d) => put(k, d, shifted(n)),
-        Class::Load(_, d) => put(k, d, anything()),
-        Class::Store(m, _) => after_store(k, m),
-        Class::MovePc(d) => put(k, d, anything()),
-        Class::Jump(_, _) => k,
-        Class::Jr(_, _) => k,
+        Class::Quiet => false,
+        Class::Write(_) => false,
+        Class::Moveq(_, _) => false,
+        Class::Movei(_) => false,
+        Class::Move(_, _) => false,
+        Class::And(_, _) => false,
+        Class::Add(_, _) => false,
+        Class::AddQuick(_, _) => false,
+        Class::SubQuick(_, _) => false,
+        Class::Shlq(_, _) => false,
+        Class::Load(_, _) => false,
+        Class::Store(m, _) => is_exactly(reach(m, x, y), 0xF02100),
+        Class::MovePc(_) => false,
+        Class::Jump(_, _) => false,
+        Class::Jr(_, _) => false,
     }
 }

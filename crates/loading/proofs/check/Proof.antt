@@ -1,0 +1,58 @@
+-- `check` meets its contract, and Demand 3 is proved of the graphics processor.
+-- Assumes nothing.
+use borrow.Author.Needs.{needs}
+use borrow.Author.Tests.{leb-true, eq-eqb, ne-eqb, not-true, not-false}
+use native.Mathlib.Omega.{arith}
+use mathlib.Core.Bool.{true, _&&_}
+use mathlib.Core.Path.{_≡_, sym, _∙_}
+use Prim.Native.Nat.{ℕ, _%_, _≤_}
+use denote.Ref.{now}
+use lib.Dec.{leb, eqb}
+use lib.Seq.{length-take-le}
+use Rattle.memory.specs.Processor.{gpu}
+use Rattle.rules.specs.Check.{isLength, checkOf}
+use Rattle.rules.proofs.Booleans.{and-l, and-r}
+use Rattle.rules.proofs.Examples.{gpu-demand3}
+use Rattle.loading.proofs.check.Statement.{statement}
+use Rattle.loading.proofs.check.Tie as tie
+
+most : (C : ℕ) → isLength gpu C ≡ true → C ≤ 4096
+most C e = leb-true C 4096 (and-l (leb C 4096) (eqb (C % 4) 0) (and-r (leb 4 C) (leb C 4096 && eqb (C % 4) 0) e))
+
+returns : tie.Need-returns
+unfolding checkOf
+returns c = (rw (ne-eqb _ _ (c .if1 .taken)), gpu-demand3)
+
+returns-2 : tie.Need-returns-2
+unfolding checkOf
+returns-2 c = (
+  rw
+      (eq-eqb _ _ (c .before .before .if1 .left), ← c .before .is-length .ensures, not-true (c .before .is-length .result) (c .if2 .taken)),
+  gpu-demand3,
+)
+
+slice-aggregate-rules : tie.Need-slice-aggregate-rules
+slice-aggregate-rules c =
+    let s = c .before .before .before .before .before in
+    let high = most (s .args .code-len) (sym (c .before .before .is-length .ensures) ∙ not-false _ (c .before .if2 .left)) in
+    sym (length-take-le (s .args .code-len) (now (s .args .ram)) (omega (arith, high, c .before .before .before .if1 .left)))
+
+rules-requires : tie.Need-rules-requires
+rules-requires c κs =
+    let s = c .before .before .before .before .before in
+    let high = most (s .args .code-len) (sym (c .before .before .is-length .ensures) ∙ not-false _ (c .before .if2 .left)) in
+    rw (length-take-le (s .args .code-len) (now (s .args .ram)) (omega (arith, high, c .before .before .before .if1 .left))) high
+
+returns-3 : tie.Need-returns-3
+unfolding checkOf
+returns-3 c =
+    let l = c .before .before .before in (
+      rw (eq-eqb _ _ (l .before .if1 .left), ← l .is-length .ensures, not-false (l .is-length .result) (c .before .before .if2 .left))
+          (c .rules .ensures),
+      gpu-demand3,
+    )
+
+pub check-spec : {M : Type 1} → statement M
+check-spec =
+    tie.close
+    (tie.spec returns (λ c κs. search needs) returns-2 slice-aggregate-rules rules-requires returns-3)

@@ -1,0 +1,4 @@
+pub mod Came
+pub mod Least
+pub mod Here
+pub mod Turn

@@ -1,0 +1,73 @@
+// Rules 1 to 5 over the whole code: which is the lowest that is broken, and where.
+ghost use mathlib.Core.Path.{_≡_};
+ghost use mathlib.Core.Bool.{not};
+ghost use Prim.Native.Nat.{_+_, _≤_};
+ghost use lib.ListN.{length};
+ghost use Rattle.memory.specs.Processor.{gpu};
+ghost use Rattle.rules.specs.Reading.{found};
+ghost use Rattle.rules.specs.Check.{first};
+ghost use Rattle.reading.specs.Marks.{MarksStarts, MarksTargets};
+ghost use Rattle.passes.specs.Passes.{Here, Lowest, testOf, hitAt};
+use crate::tests::obeys;
+use reading::item_at;
+use reading::shape_of;
+use reading::size;
+use rules::Item;
+
+// The lowest rule below a limit that the item t at offset i, after p, breaks; the limit, if it breaks none.
+fn lowest_here(
+    limit: u32,
+    code: &[u8],
+    starts: &[bool; 4104],
+    targets: &[bool; 4104],
+    i: usize,
+    p: Item,
+    t: Item,
+) -> u32
+    requires { ⌜ (1 ≤ limit) × Here (now code) i t × MarksStarts (now code) (now starts) × MarksTargets (now code) (now targets) ⌝ }
+    ensures { λ r. ⌜ Lowest (λ rule. testOf (now (code .entry)) rule (0xF03000 + i) p) limit r ⌝ }
+{
+    let mut rule: u32 = 1;
+    while rule < limit {
+        if !obeys(rule, code, starts, targets, i, p, t) {
+            return rule;
+        }
+        rule += 1;
+    }
+    rule
+}
+
+// The lowest of the rules 1 to 5 that is broken anywhere; 6, if none is.
+pub fn lowest_broken(code: &[u8], starts: &[bool; 4104], targets: &[bool; 4104]) -> u32
+    requires { ⌜ (length (now code) ≤ 4096) × MarksStarts (now code) (now starts) × MarksTargets (now code) (now targets) ⌝ }
+    ensures { λ r. ⌜ Lowest (λ rule. not (found (first gpu (now (code .entry)) (testOf (now (code .entry)) rule)))) 6 r ⌝ }
+{
+    let mut i: usize = 0;
+    let mut p = Item::Unbuilt;
+    let mut limit: u32 = 6;
+    while i < code.len() {
+        let t = item_at(code, i);
+        limit = lowest_here(limit, code, starts, targets, i, p, t);
+        i += size(shape_of(t));
+        p = t;
+    }
+    limit
+}
+
+// The first offset at which one of the rules 1 to 5 is broken.
+pub fn first_broken(rule: u32, code: &[u8], starts: &[bool; 4104], targets: &[bool; 4104]) -> usize
+    requires { ⌜ (length (now code) ≤ 4096) × MarksStarts (now code) (now starts) × MarksTargets (now code) (now targets) ⌝ }
+    ensures { λ r. ⌜ hitAt (now (code .entry)) r ≡ first gpu (now (code .entry)) (testOf (now (code .entry)) rule) ⌝ }
+{
+    let mut i: usize = 0;
+    let mut p = Item::Unbuilt;
+    while i < code.len() {
+        let t = item_at(code, i);
+        if !obeys(rule, code, starts, targets, i, p, t) {
+            return i;
+        }
+        i += size(shape_of(t));
+        p = t;
+    }
+    i
+}

@@ -1,0 +1,198 @@
+// Rules 1 to 5 at one instruction: the item t at offset i, after the item p.
+ghost use mathlib.Core.Path.{_≡_};
+ghost use mathlib.Core.Bool.{Bool};
+ghost use Prim.Native.Nat.{_+_, _≤_, _<_};
+ghost use lib.ListN.{length};
+ghost use Rattle.memory.specs.Processor.{gpu};
+ghost use Rattle.rules.specs.Check.{jumps, breaksSlot, always, holds, isStart, isTarget, ok1, ok2, ok3, ok4, ok5};
+ghost use Rattle.rules.specs.Check as check;
+ghost use Rattle.reading.specs.Marks.{MarksStarts, MarksTargets};
+ghost use Rattle.passes.specs.Passes.{Here, testOf};
+use alu::jump::jr_target;
+use isa::signed_field;
+use reading::is_marked;
+use reading::item_at;
+use reading::shape_of;
+use reading::size;
+use rules::Item;
+use rules::Shape;
+
+fn is_built(t: Item) -> bool
+    ensures { λ r. ⌜ r ≡ check.isBuilt t ⌝ }
+{
+    match t {
+        Item::Unbuilt => false,
+        Item::Built(_, _) => true,
+    }
+}
+
+fn is_jump(s: Shape) -> bool
+    ensures { λ r. ⌜ r ≡ jumps s ⌝ }
+{
+    match s {
+        Shape::Other => false,
+        Shape::Movei(_, _) => false,
+        Shape::MovePc => false,
+        Shape::Jr(_, _) => true,
+        Shape::Jump(_, _) => true,
+        Shape::Load(_) => false,
+        Shape::Store(_) => false,
+    }
+}
+
+fn breaks_slot(s: Shape) -> bool
+    ensures { λ r. ⌜ r ≡ breaksSlot s ⌝ }
+{
+    match s {
+        Shape::Other => false,
+        Shape::Movei(_, _) => true,
+        Shape::MovePc => true,
+        Shape::Jr(_, _) => true,
+        Shape::Jump(_, _) => true,
+        Shape::Load(_) => false,
+        Shape::Store(_) => false,
+    }
+}
+
+fn always_jumps(s: Shape) -> bool
+    ensures { λ r. ⌜ r ≡ always s ⌝ }
+{
+    match s {
+        Shape::Other => false,
+        Shape::Movei(_, _) => false,
+        Shape::MovePc => false,
+        Shape::Jr(_, c) => c == 0,
+        Shape::Jump(_, c) => c == 0,
+        Shape::Load(_) => false,
+        Shape::Store(_) => false,
+    }
+}
+
+// Whether p is a MOVEI into register r of an instruction start.
+fn holds_start(code: &[u8], starts: &[bool; 4104], p: Shape, r: u32) -> bool
+    requires { ⌜ MarksStarts (now code) (now starts) ⌝ }
+    ensures { λ b. ⌜ b ≡ holds p r (isStart gpu (now (code .entry))) ⌝ }
+{
+    match p {
+        Shape::Other => false,
+        Shape::Movei(d, v) => if d == r { is_marked(starts, v) } else { false },
+        Shape::MovePc => false,
+        Shape::Jr(_, _) => false,
+        Shape::Jump(_, _) => false,
+        Shape::Load(_) => false,
+        Shape::Store(_) => false,
+    }
+}
+
+pub fn is_target(code: &[u8], targets: &[bool; 4104], i: usize) -> bool
+    requires { ⌜ (i < 4104) × MarksTargets (now code) (now targets) ⌝ }
+    ensures { λ r. ⌜ r ≡ isTarget gpu (now (code .entry)) (0xF03000 + i) ⌝ }
+{
+    is_marked(targets, 0xF03000 + i as u32)
+}
+
+fn obeys1(code: &[u8], i: usize, p: Item, t: Item) -> bool
+    requires { ⌜ Here (now code) i t ⌝ }
+    ensures { λ r. ⌜ r ≡ ok1 gpu (now (code .entry)) (0xF03000 + i) p ⌝ }
+{
+    if is_built(t) {
+        i + size(shape_of(t)) <= code.len()
+    } else {
+        false
+    }
+}
+
+fn obeys2(code: &[u8], starts: &[bool; 4104], i: usize, p: Item, t: Item) -> bool
+    requires { ⌜ Here (now code) i t × MarksStarts (now code) (now starts) ⌝ }
+    ensures { λ r. ⌜ r ≡ ok2 gpu (now (code .entry)) (0xF03000 + i) p ⌝ }
+{
+    let s = shape_of(t);
+    match s {
+        Shape::Other => true,
+        Shape::Movei(_, _) => true,
+        Shape::MovePc => true,
+        Shape::Jr(n, _) => is_marked(starts, jr_target(0xF03000 + i as u32, signed_field(n))),
+        Shape::Jump(_, _) => true,
+        Shape::Load(_) => true,
+        Shape::Store(_) => true,
+    }
+}
+
+fn obeys3(
+    code: &[u8],
+    starts: &[bool; 4104],
+    targets: &[bool; 4104],
+    i: usize,
+    p: Item,
+    t: Item,
+) -> bool
+    requires { ⌜ Here (now code) i t × MarksStarts (now code) (now starts) × MarksTargets (now code) (now targets) ⌝ }
+    ensures { λ r. ⌜ r ≡ ok3 gpu (now (code .entry)) (0xF03000 + i) p ⌝ }
+{
+    let s = shape_of(t);
+    match s {
+        Shape::Other => true,
+        Shape::Movei(_, _) => true,
+        Shape::MovePc => true,
+        Shape::Jr(_, _) => true,
+        Shape::Jump(r, _) => if holds_start(code, starts, shape_of(p), r) {
+            !is_target(code, targets, i)
+        } else {
+            false
+        },
+        Shape::Load(_) => true,
+        Shape::Store(_) => true,
+    }
+}
+
+fn obeys4(code: &[u8], i: usize, p: Item, t: Item) -> bool
+    requires { ⌜ Here (now code) i t ⌝ }
+    ensures { λ r. ⌜ r ≡ ok4 gpu (now (code .entry)) (0xF03000 + i) p ⌝ }
+{
+    let s = shape_of(t);
+    if !is_jump(s) {
+        return true;
+    }
+    let n = i + size(s);
+    if n < code.len() {
+        !breaks_slot(shape_of(item_at(code, n)))
+    } else {
+        false
+    }
+}
+
+fn obeys5(code: &[u8], targets: &[bool; 4104], i: usize, p: Item, t: Item) -> bool
+    requires { ⌜ Here (now code) i t × MarksTargets (now code) (now targets) ⌝ }
+    ensures { λ r. ⌜ r ≡ ok5 gpu (now (code .entry)) (0xF03000 + i) p ⌝ }
+{
+    if i + size(shape_of(t)) != code.len() {
+        return true;
+    }
+    if always_jumps(shape_of(p)) {
+        !is_target(code, targets, i)
+    } else {
+        false
+    }
+}
+
+// Whether the item t at offset i, after p, obeys one of the rules 1 to 5.
+pub fn obeys(
+    rule: u32,
+    code: &[u8],
+    starts: &[bool; 4104],
+    targets: &[bool; 4104],
+    i: usize,
+    p: Item,
+    t: Item,
+) -> bool
+    requires { ⌜ Here (now code) i t × MarksStarts (now code) (now starts) × MarksTargets (now code) (now targets) ⌝ }
+    ensures { λ r. ⌜ r ≡ testOf (now (code .entry)) rule (0xF03000 + i) p ⌝ }
+{
+    match rule {
+        1 => obeys1(code, i, p, t),
+        2 => obeys2(code, starts, i, p, t),
+        3 => obeys3(code, starts, targets, i, p, t),
+        4 => obeys4(code, i, p, t),
+        _ => obeys5(code, targets, i, p, t),
+    }
+}

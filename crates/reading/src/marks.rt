@@ -1,0 +1,96 @@
+// Marks of addresses: which are instruction starts, and which are targets. A mark for each offset of the code, and a few
+// behind it, where the last instruction may end.
+ghost use mathlib.Core.Path.{_≡_};
+ghost use mathlib.Core.Bool.{Bool};
+ghost use Prim.Native.Nat.{_+_, _≤_, _<_};
+ghost use lib.ListN.{length};
+ghost use Rattle.rules.specs.Check.{leads};
+ghost use Rattle.reading.specs.Marks.{markAt, mark, MovedInto, Targets, MarksStarts, MarksTargets};
+use crate::items::item_at;
+use crate::items::shape_of;
+use crate::items::size;
+use alu::jump::jr_target;
+use isa::signed_field;
+use rules::Item;
+use rules::Shape;
+
+pub fn is_marked(marks: &[bool; 4104], t: u32) -> bool
+    ensures { λ r. ⌜ r ≡ markAt (now (marks .entry)) t ⌝ }
+{
+    if t < 0xF03000 {
+        return false;
+    }
+    let i = (t - 0xF03000) as usize;
+    if i < 4104 { marks[i] } else { false }
+}
+
+fn set_mark(marks: &mut [bool; 4104], t: u32)
+    ensures { λ _. ⌜ now (marks .exit) ≡ mark (now (marks .entry)) t ⌝ }
+{
+    if 0xF03000 <= t {
+        let i = (t - 0xF03000) as usize;
+        if i < 4104 {
+            marks[i] = true;
+        }
+    }
+}
+
+pub fn mark_starts(code: &[u8]) -> [bool; 4104]
+    requires { ⌜ length (now code) ≤ 4096 ⌝ }
+    ensures { λ r. ⌜ MarksStarts (now (code .entry)) r ⌝ }
+{
+    let mut marks = [false; 4104];
+    let mut i: usize = 0;
+    while i < code.len() {
+        set_mark(&mut marks, 0xF03000 + i as u32);
+        i += size(shape_of(item_at(code, i)));
+    }
+    marks
+}
+
+// The value of a MOVEI into the register of a JUMP; 0, which is no address of the code, where there is none.
+fn moved_into(p: Shape, r: u32) -> u32
+    ensures { λ v. ⌜ MovedInto p r v ⌝ }
+{
+    match p {
+        Shape::Other => 0,
+        Shape::Movei(d, v) => if d == r { v } else { 0 },
+        Shape::MovePc => 0,
+        Shape::Jr(_, _) => 0,
+        Shape::Jump(_, _) => 0,
+        Shape::Load(_) => 0,
+        Shape::Store(_) => 0,
+    }
+}
+
+// The target of an instruction of the shape s at a, after one of the shape p; 0 where it has none.
+fn target(a: u32, p: Shape, s: Shape) -> u32
+    ensures { λ r. ⌜ Targets a p s r ⌝ }
+{
+    match s {
+        Shape::Other => 0,
+        Shape::Movei(_, _) => 0,
+        Shape::MovePc => 0,
+        Shape::Jr(n, _) => jr_target(a, signed_field(n)),
+        Shape::Jump(r, _) => moved_into(p, r),
+        Shape::Load(_) => 0,
+        Shape::Store(_) => 0,
+    }
+}
+
+pub fn mark_targets(code: &[u8]) -> [bool; 4104]
+    requires { ⌜ length (now code) ≤ 4096 ⌝ }
+    ensures { λ r. ⌜ MarksTargets (now (code .entry)) r ⌝ }
+{
+    let mut marks = [false; 4104];
+    let mut i: usize = 0;
+    let mut p = Item::Unbuilt;
+    while i < code.len() {
+        let t = item_at(code, i);
+        let s = shape_of(t);
+        set_mark(&mut marks, target(0xF03000 + i as u32, shape_of(p), s));
+        i += size(s);
+        p = t;
+    }
+    marks
+}
