@@ -1,20 +1,24 @@
 /* A kiosk in small: checks an image, runs it frame by frame, and says in plain words how it ended and what to do.
+   docs/KIOSK.md explains the calls.
 
    kiosk IMAGE [LENGTH [FRAMES]]
 
    IMAGE is a file of 4,096 bytes, the whole local RAM, with the program at its start. LENGTH is how many bytes of it are
    the program; with it the loading check comes first, and a program that it refuses is not run. At most FRAMES frames are
-   run, by default 100. The program ends with 0 if the image stopped itself or used up its frames, with 1 on a fault, and
+   run, by default 10. The program ends with 0 if the image stopped itself or used up its frames, with 1 on a fault, and
    with 2 if there was nothing to run. */
 
 #include <inttypes.h>
+#include <stdbool.h>
 #include <stdio.h>
 #include <stdlib.h>
 #include <string.h>
 
 #include "gpu.h"
 
-enum { STEPS_PER_FRAME = 100000, DEFAULT_FRAMES = 100, MOST_FRAMES = 1000000 };
+/* The steps of a frame take a millisecond or two, and leave the rest of it for drawing. The default frames together are a
+   million steps, as many as the run program's. */
+enum { STEPS_PER_FRAME = 100000, DEFAULT_FRAMES = 10, MOST_FRAMES = 1000000 };
 
 /* One byte more than RAM has, so that a longer file is seen to be longer. */
 static uint8_t ram[GPU_RAM_LENGTH + 1];
@@ -63,10 +67,24 @@ static void show_state(void)
     show_bank("bank 1, R0 to R31", GPU_BLOCK_BANK1);
 }
 
-/* Every answer has its sentence, and a refused program one that says what to do. */
+/* What to say of an answer, and of a refused program or call what to do. */
 static const char *sentence(unsigned answer)
 {
     switch (answer) {
+    case GPU_BUDGET_SPENT:
+        return "The program is still running, and its frames are used up.";
+    case GPU_STOPPED:
+        return "The program stopped itself.";
+    case GPU_WORD_NOT_BUILT:
+        return "The program came to a word that is no instruction.";
+    case GPU_COUNTER_OUTSIDE:
+        return "The program left local RAM, or came to an odd address.";
+    case GPU_ADDRESS_MISALIGNED:
+        return "The program used an address that is not a multiple of 4.";
+    case GPU_ADDRESS_OUTSIDE:
+        return "The program used an address where there is nothing.";
+    case GPU_JUMP_IS_PENDING:
+        return "The program has a jump, MOVEI or MOVE PC directly after a taken jump.";
     case GPU_RULE_1:
         return "The program was refused: the word there is no instruction. See that the whole file was copied, and that the "
                "length is that of the program.";
@@ -83,33 +101,24 @@ static const char *sentence(unsigned answer)
     case GPU_RULE_6:
         return "The program was refused: it can not be seen that the LOAD or STORE there stays where it may. Ask its author to "
                "set the address with a MOVEI just before it.";
+    case GPU_RAM_LENGTH_WRONG:
+        return "The image was refused: it can not be read, or is not 4,096 bytes long. See that it is the right file.";
+    case GPU_BUDGET_TOO_LARGE:
+        return "The call was refused: a frame has too many steps. Give it fewer in the kiosk's program.";
     case GPU_CODE_LENGTH_WRONG:
         return "The length was refused: give a number from 4 to 4096 that is a multiple of 4.";
-    case GPU_BUDGET_SPENT:
-        return "The program is still running, and its frames are used up.";
-    case GPU_STOPPED:
-        return "The program stopped itself.";
-    case GPU_WORD_NOT_BUILT:
-        return "The program came to a word that is no instruction.";
-    case GPU_COUNTER_OUTSIDE:
-        return "The program left local RAM, or came to an odd address.";
-    case GPU_ADDRESS_MISALIGNED:
-        return "The program used an address that is not a multiple of 4.";
-    case GPU_ADDRESS_OUTSIDE:
-        return "The program used an address where there is nothing.";
-    case GPU_JUMP_IS_PENDING:
-        return "The program has a jump, MOVEI or MOVE PC directly after a taken jump.";
-    case GPU_RAM_LENGTH_WRONG:
-        return "The image was refused: it can not be read, or is not 4,096 bytes long.";
-    case GPU_BUDGET_TOO_LARGE:
-        return "The call was refused: a frame has too many steps.";
     case GPU_BLOCK_WRONG:
-        return "The call was refused: the state block has a wrong bit or target.";
+        return "The call was refused: the state block has a wrong bit or target. Start again from the image.";
     case GPU_BLOCK_LENGTH_WRONG:
-        return "The call was refused: the state block has a wrong length.";
+        return "The call was refused: the state block has a wrong length. Start again from the image.";
     default:
         return "The answer is unknown.";
     }
+}
+
+static bool is_fault(unsigned answer)
+{
+    return answer >= GPU_WORD_NOT_BUILT && answer <= GPU_JUMP_IS_PENDING;
 }
 
 static int exit_status(unsigned answer)
@@ -117,7 +126,14 @@ static int exit_status(unsigned answer)
     if (answer == GPU_BUDGET_SPENT || answer == GPU_STOPPED) {
         return 0;
     }
-    return answer >= GPU_RAM_LENGTH_WRONG ? 2 : 1;
+    return is_fault(answer) ? 1 : 2;
+}
+
+/* The place of the picture. All that a kiosk paints it reads from `ram`, where this frame's numbers stand and those of no
+   frame before. Here a line says how far the program is. */
+static void draw_frame(unsigned long frame, uint64_t steps)
+{
+    printf("frame %lu: %" PRIu64 " steps so far, counter %08" PRIX32 "\n", frame, steps, gpu_long(block, GPU_BLOCK_COUNTER));
 }
 
 /* Gives a number from 1 to `most`, or 0 if the text is none. */
@@ -154,18 +170,24 @@ int main(int argc, char **argv)
     uint64_t steps = 0;
     put_start_state();
 
-    /* A real kiosk would draw its picture from RAM after each frame. A wrong length is left for gpu_run to refuse. */
+    /* A frame: run a little, then draw what came back. A wrong length is left for gpu_run to refuse. */
     while (answer == GPU_BUDGET_SPENT && frame < frames) {
         uint64_t reply = gpu_run(ram, length, block, sizeof block, STEPS_PER_FRAME);
         answer = gpu_answer(reply);
         steps += gpu_steps(reply);
         frame++;
+        if (answer == GPU_BUDGET_SPENT || answer == GPU_STOPPED) {
+            draw_frame(frame, steps);
+        }
     }
 
     printf("%s\n", sentence(answer));
-    if (answer < GPU_RAM_LENGTH_WRONG) {
-        printf("answer %u after %" PRIu64 " steps, in frame %lu\n", answer, steps, frame);
+    printf("answer %u after %" PRIu64 " steps, in frame %lu\n", answer, steps, frame);
+    if (exit_status(answer) != 2) {
         show_state();
+    }
+    if (is_fault(answer)) {
+        printf("Write down the name of the image and all that stands here, for the restorers.\n");
     }
     return exit_status(answer);
 }
