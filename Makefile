@@ -10,22 +10,22 @@ help: ## list these commands
 	@grep -E '^[a-z]+:.*##' Makefile | sed 's/:.*## /\t/' | expand -t 14
 
 run: ## run an image and print its card: IMAGE=FILE, of 4,096 bytes or a .words file (default: paper 01's card)
-	@mkdir -p target; rt check run >target/check.log 2>&1 || { cat target/check.log; exit 1; }
+	@tools/prove check run
 	@case "$(IMAGE)" in \
 	*.words) python3 tools/image.py "$(IMAGE)" | target/bin/run ;; \
 	*) target/bin/run <"$(IMAGE)" ;; \
 	esac
 
 loadcheck: ## check an image before it runs: IMAGE=FILE, as for run, and LENGTH=BYTES of code (default: paper 01's card)
-	@mkdir -p target; rt check loadcheck >target/check.log 2>&1 || { cat target/check.log; exit 1; }
+	@tools/prove check loadcheck
 	@{ python3 tools/image.py "$(IMAGE)"; echo "$(or $(LENGTH),16)"; } | target/bin/loadcheck
 
 rows: ## run the published rows and the further vectors through the compiled functions
-	@mkdir -p target; rt check vectors >target/check.log 2>&1 || { cat target/check.log; exit 1; }
+	@tools/prove check vectors
 	@target/bin/vectors
 
-kiosk: target/kiosk ## run an image frame by frame as the kiosk does: IMAGE=FILE, as for run; checked first with LENGTH=BYTES
-	@python3 tools/image.py "$(IMAGE)" >target/image.bin && target/kiosk target/image.bin $(LENGTH)
+kiosk: target/kiosk ## run an image frame by frame: IMAGE=FILE, as for run; checked first with LENGTH=BYTES, and then FRAMES=N
+	@python3 tools/image.py "$(IMAGE)" >target/image.bin && target/kiosk target/image.bin $(LENGTH) $(if $(LENGTH),$(FRAMES))
 
 test: ## the whole gate: proofs, must-fail edits, programs, tests
 	@.ci/run
@@ -33,7 +33,7 @@ test: ## the whole gate: proofs, must-fail edits, programs, tests
 tests: target/differential target/loading target/kiosk ## the tests over what is built already
 	@tests/run
 
-bench: target/bench target/checkbench ## time a run beside a plain C interpreter, and the loading check
+bench: target/bench target/checkbench ## time a run beside a plain C interpreter, and the loading check: about a minute
 	@target/bench
 	@target/checkbench
 
@@ -44,9 +44,8 @@ check: ## prove what has changed, and run the programs
 	@rt check
 
 $(ARCHIVE):
-	@mkdir -p target
-	@echo "building $@ (about a minute)"
-	@rt staticlib kiosk >target/staticlib.log 2>&1 || { cat target/staticlib.log; exit 1; }
+	@echo "building $@: about a minute, and in a fresh clone about five, with a line for each crate" >&2
+	@tools/prove staticlib kiosk
 
 target/differential: $(DIFFERENTIAL) $(ARCHIVE)
 	$(CC) $(CFLAGS) $(DIFFERENTIAL) $(ARCHIVE) -o $@

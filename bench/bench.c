@@ -286,6 +286,16 @@ static double median(double *numbers, size_t count)
 
 enum { MOST_PAIRS = 1001, LEAST_PAIRS = 15, LEAST_CALLS = 200, ENDS = 100 };
 
+/* Says how far a measurement is, every few seconds, apart from the results. */
+static void tell_progress(const char *what, size_t done, size_t all)
+{
+    static double told;
+    if (seconds() - told >= 5) {
+        told = seconds();
+        fprintf(stderr, "bench: %s, %zu of %zu\n", what, done, all);
+    }
+}
+
 /* The system counts memory in steps of up to 64 pages, which is no growth yet. */
 enum { COUNTING_STEP_KILOBYTES = 256 };
 
@@ -296,6 +306,7 @@ static double time_loop(const struct loop *loop, size_t pairs)
     timed_fresh_call(MEASURED, loop);
     timed_fresh_call(interpreter_run, loop);
     for (size_t i = 0; i < pairs; i++) {
+        tell_progress(loop->name, i, pairs);
         if (i % 2 == 0) {
             measured[i] = timed_fresh_call(MEASURED, loop);
             plain[i] = timed_fresh_call(interpreter_run, loop);
@@ -322,6 +333,7 @@ static double time_loops(size_t pairs)
         worst = ratio > worst ? ratio : worst;
     }
     printf("worst ratio %.2f\n", worst);
+    fflush(stdout);
     return worst;
 }
 
@@ -360,6 +372,7 @@ static long run_series(size_t calls)
     timed_call(interpreter_run, plain.image.ram, plain.block);
     long before = peak_kilobytes();
     for (size_t i = 0; i < calls; i++) {
+        tell_progress("calls in a series", i, calls);
         double time = timed_call(MEASURED, measured.image.ram, measured.block);
         double ratio = time / timed_call(interpreter_run, plain.image.ram, plain.block);
         if (i < ENDS) {

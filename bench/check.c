@@ -91,7 +91,9 @@ int main(int argc, char **argv)
     while (end < sizeof ram) {
         emit_block();
     }
-    printf("the loading check: bytes of code, microseconds, nanoseconds per byte\n");
+    printf("the loading check, from %d to %d bytes of code: bytes, microseconds, nanoseconds per byte\n", LEAST,
+           GPU_RAM_LENGTH);
+    fflush(stdout);
     for (uint64_t length = LEAST; length <= GPU_RAM_LENGTH; length *= 2) {
         last = timed(length);
         printf("%6" PRIu64 " %10.2f %10.2f\n", length, last, 1e3 * last / (double)length);

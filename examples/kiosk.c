@@ -16,7 +16,7 @@
 
 #include "gpu.h"
 
-/* The steps of a frame take a millisecond or two, and leave the rest of it for drawing. The default frames together are a
+/* The steps of a frame take a small part of its time, and leave the rest for drawing. The default frames together are a
    million steps, as many as the run program's. */
 enum { STEPS_PER_FRAME = 100000, DEFAULT_FRAMES = 10, MOST_FRAMES = 1000000 };
 

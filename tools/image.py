@@ -7,6 +7,8 @@
 A line holds words of four hex digits with spaces between. A semicolon begins a comment, which goes on to the end of the
 line. The words stand one behind the other from F03000h on, high byte first; a line @ADDRESS, with an even hex address from
 F03000 to F03FFF, moves the place of the next word. Every byte that is not named is zero.
+
+A file whose name does not end in .words is an image already: if it has 4,096 bytes it is passed on as it is.
 """
 
 import argparse
@@ -65,9 +67,20 @@ def image_of(text):
     return bytes(ram)
 
 
+def passed_on(path):
+    """The bytes of a file that is an image already."""
+    with open(path, "rb") as file:
+        image = file.read(RAM_LENGTH + 1)
+    if len(image) != RAM_LENGTH:
+        sys.exit(f"{path}: not an image: it has {'more' if len(image) > RAM_LENGTH else 'fewer'} than {RAM_LENGTH} bytes")
+    return image
+
+
 def read_image(path):
-    """The image of a file of words; ends the program with file and line where there is none."""
+    """The image of a file; ends the program with file and line where there is none."""
     try:
+        if not str(path).endswith(".words"):
+            return passed_on(path)
         with open(path, encoding="utf-8") as file:
             return image_of(file.read())
     except Refused as refused:
@@ -80,7 +93,7 @@ def read_image(path):
 
 def main():
     parser = argparse.ArgumentParser(description="Makes an image of local RAM, 4,096 bytes, from a file of words.")
-    parser.add_argument("words", metavar="FILE.words")
+    parser.add_argument("words", metavar="FILE.words", help="a file of words, or an image")
     parser.add_argument("-o", metavar="FILE.bin", dest="out", help="write there and not to standard output")
     given = parser.parse_args()
     image = read_image(given.words)

@@ -220,9 +220,14 @@ static void start_kind(void)
     put_random_words(0, GPU_RAM_LENGTH / 2);
 }
 
+/* How many kinds of cases there are once, and in each round. */
+enum { KINDS_ONCE = 7, KINDS_PER_ROUND = 4 };
+
+static uint64_t kinds_done, kinds;
+
 static void end_kind(const char *name)
 {
-    printf("%s: ", name);
+    printf("%" PRIu64 " of %" PRIu64 ", %s: ", ++kinds_done, kinds, name);
     print_number(cases_compared());
     printf(" cases so far\n");
     fflush(stdout);
@@ -238,6 +243,7 @@ int main(int argc, char **argv)
     uint64_t seed = argc > 1 ? strtoull(argv[1], NULL, 0) : 19931123;
     uint64_t rounds = argc > 2 ? strtoull(argv[2], NULL, 0) : 1;
     random_state = seed == 0 ? 1 : seed;
+    kinds = KINDS_ONCE + KINDS_PER_ROUND * rounds;
     printf("seed %" PRIu64 "\n", seed);
     fflush(stdout);
     prepare_comparison();

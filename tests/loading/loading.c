@@ -379,7 +379,7 @@ int main(int argc, char **argv)
     compare_lengths();
     for (uint64_t done = 0; done < programs; done += 10000) {
         compare_programs(10000);
-        printf("programs: %" PRIu64 " checks so far\n", cases);
+        printf("%" PRIu64 " of %" PRIu64 " programs: %" PRIu64 " checks so far\n", done + 10000, programs, cases);
         fflush(stdout);
     }
     printf("checks by answer:");
