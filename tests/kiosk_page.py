@@ -139,6 +139,19 @@ def check_build_line(text, archive, folder):
     compile_with([*words, folder / "kiosk", "-Werror"])
 
 
+def check_needs(archive):
+    """The archive has no variables, and needs no more of the C library than the page says."""
+    told = subprocess.run(["nm", archive], cwd=ROOT, stdout=subprocess.PIPE, text=True, check=True).stdout
+    symbols = re.findall(r"^[0-9a-f ]{16} (\w) (\S+)$", told, re.MULTILINE)
+    functions = {name for kind, name in symbols if kind == "T"}
+    if not {"gpu_run", "gpu_check"} <= functions:
+        fail("the archive lacks a function of the header")
+    variables = [name for kind, name in symbols if kind in "bBcCdDsS"]
+    needed = {name for kind, name in symbols if kind == "U"}
+    if variables or not needed <= {"memcpy", "memset"}:
+        fail(f"the archive has the variables {variables} and needs {sorted(needed)}")
+
+
 def check_cpp(text, archive, folder):
     if shutil.which("g++") is None:
         print("kiosk page: g++ is not installed; the C++ piece is not compiled")
@@ -160,6 +173,7 @@ def main():
         check_program(text, archive, Path(folder))
         check_build_line(text, archive, Path(folder))
         check_cpp(text, archive, Path(folder))
+    check_needs(archive)
     print("kiosk page: its programs compile, and do what the model says")
 
 
