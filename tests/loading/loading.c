@@ -19,7 +19,7 @@
 
 #define COUNT(array) (sizeof(array) / sizeof((array)[0]))
 
-enum { NOP = 0xE400, MOST_HEADS = GPU_RAM_LENGTH / 2, STEPS = 300, LEAST_OF_EACH = 2000 };
+enum { NOP = 0xE400, MOST_HEADS = GPU_RAM_LENGTH / 2, STEPS = 300, LEAST_OF_EACH = 2000, PROGRAMS_PER_LINE = 10000 };
 
 uint64_t random_state;
 
@@ -377,9 +377,11 @@ int main(int argc, char **argv)
     random_state = seed == 0 ? 1 : seed;
     prepare();
     compare_lengths();
-    for (uint64_t done = 0; done < programs; done += 10000) {
-        compare_programs(10000);
-        printf("%" PRIu64 " of %" PRIu64 " programs: %" PRIu64 " checks so far\n", done + 10000, programs, cases);
+    for (uint64_t done = 0; done < programs;) {
+        uint64_t some = programs - done < PROGRAMS_PER_LINE ? programs - done : PROGRAMS_PER_LINE;
+        compare_programs((uint32_t)some);
+        done += some;
+        printf("%" PRIu64 " of %" PRIu64 " programs: %" PRIu64 " checks so far\n", done, programs, cases);
         fflush(stdout);
     }
     printf("checks by answer:");
