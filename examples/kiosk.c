@@ -144,6 +144,54 @@ static unsigned long number_from(const char *text, unsigned long most)
     return text[0] == '-' || *end != '\0' || number > most ? 0 : number;
 }
 
+/* Whether the loading check admits the program; if not, says why. */
+static bool is_admitted(size_t ram_length, uint64_t code_length)
+{
+    uint64_t reply = gpu_check(ram, ram_length, code_length);
+    unsigned answer = gpu_answer(reply);
+    if (answer != 0) {
+        printf("%s\n", sentence(answer));
+        printf("answer %u at %08" PRIX32 "\n", answer, gpu_address(reply));
+        return false;
+    }
+    printf("The program was checked: it runs without a fault and keeps its code.\n");
+    return true;
+}
+
+struct ending {
+    unsigned answer;
+    unsigned long frame;
+    uint64_t steps;
+};
+
+/* Frame by frame: run a little, then draw what came back. A wrong length is left for gpu_run to refuse. */
+static struct ending run_frames(size_t ram_length, unsigned long frames)
+{
+    struct ending end = {GPU_BUDGET_SPENT, 0, 0};
+    while (end.answer == GPU_BUDGET_SPENT && end.frame < frames) {
+        uint64_t reply = gpu_run(ram, ram_length, block, sizeof block, STEPS_PER_FRAME);
+        end.answer = gpu_answer(reply);
+        end.steps += gpu_steps(reply);
+        end.frame++;
+        if (end.answer == GPU_BUDGET_SPENT || end.answer == GPU_STOPPED) {
+            draw_frame(end.frame, end.steps);
+        }
+    }
+    return end;
+}
+
+static void report(struct ending end)
+{
+    printf("%s\n", sentence(end.answer));
+    printf("answer %u after %" PRIu64 " steps, in frame %lu\n", end.answer, end.steps, end.frame);
+    if (exit_status(end.answer) != 2) {
+        show_state();
+    }
+    if (is_fault(end.answer)) {
+        printf("Write down the name of the image and all that stands here, for the restorers.\n");
+    }
+}
+
 int main(int argc, char **argv)
 {
     unsigned long frames = argc > 3 ? number_from(argv[3], MOST_FRAMES) : DEFAULT_FRAMES;
@@ -152,42 +200,15 @@ int main(int argc, char **argv)
         return 2;
     }
 
-    size_t length = load_image(argv[1]);
-    if (argc > 2) {
-        uint64_t reply = gpu_check(ram, length, number_from(argv[2], GPU_RAM_LENGTH));
-        if (gpu_answer(reply) != 0) {
-            printf("%s\n", sentence(gpu_answer(reply)));
-            printf("answer %u at %08" PRIX32 "\n", gpu_answer(reply), gpu_address(reply));
-            return 2;
-        }
-        printf("The program was checked: it runs without a fault and keeps its code.\n");
-    } else {
+    size_t ram_length = load_image(argv[1]);
+    if (argc == 2) {
         printf("The program was not checked. Give the length of its code to have it checked.\n");
+    } else if (!is_admitted(ram_length, number_from(argv[2], GPU_RAM_LENGTH))) {
+        return 2;
     }
 
-    unsigned answer = GPU_BUDGET_SPENT;
-    unsigned long frame = 0;
-    uint64_t steps = 0;
     put_start_state();
-
-    /* A frame: run a little, then draw what came back. A wrong length is left for gpu_run to refuse. */
-    while (answer == GPU_BUDGET_SPENT && frame < frames) {
-        uint64_t reply = gpu_run(ram, length, block, sizeof block, STEPS_PER_FRAME);
-        answer = gpu_answer(reply);
-        steps += gpu_steps(reply);
-        frame++;
-        if (answer == GPU_BUDGET_SPENT || answer == GPU_STOPPED) {
-            draw_frame(frame, steps);
-        }
-    }
-
-    printf("%s\n", sentence(answer));
-    printf("answer %u after %" PRIu64 " steps, in frame %lu\n", answer, steps, frame);
-    if (exit_status(answer) != 2) {
-        show_state();
-    }
-    if (is_fault(answer)) {
-        printf("Write down the name of the image and all that stands here, for the restorers.\n");
-    }
-    return exit_status(answer);
+    struct ending end = run_frames(ram_length, frames);
+    report(end);
+    return exit_status(end.answer);
 }
