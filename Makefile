@@ -2,9 +2,10 @@ CC = gcc
 CFLAGS = -std=c11 -O2 -Wall -Wextra -Werror -Iinclude -Ibench
 ARCHIVE = target/staticlib/libkiosk.a
 IMAGE = examples/card.words
+TABLE = docs/vectors/base.csv
 DIFFERENTIAL = $(wildcard tests/differential/*.c) bench/interpreter.c
 
-.PHONY: help run loadcheck rows kiosk test tests bench instructions check
+.PHONY: help run loadcheck rows table kiosk test tests bench instructions check
 
 help: ## list these commands
 	@grep -E '^[a-z]+:.*##' Makefile | sed 's/:.*## /\t/' | expand -t 14
@@ -24,13 +25,16 @@ rows: ## run the published rows and the further vectors through the compiled fun
 	@tools/prove check vectors
 	@target/bin/vectors
 
+table: target/libgpu.so ## run each instruction of a table: TABLE=FILE.csv (default: docs/vectors/base.csv); draws target/table.html
+	@python3 tools/table.py "$(TABLE)" --quiet --page target/table.html
+
 kiosk: target/kiosk ## run an image frame by frame: IMAGE=FILE, as for run; checked first with LENGTH=BYTES, and then FRAMES=N
 	@python3 tools/image.py "$(IMAGE)" >target/image.bin && target/kiosk target/image.bin $(LENGTH) $(if $(LENGTH),$(FRAMES))
 
 test: ## the whole gate: proofs, must-fail edits, programs, tests
 	@.ci/run
 
-tests: target/differential target/loading target/kiosk ## the tests over what is built already
+tests: target/differential target/loading target/kiosk target/libgpu.so ## the tests over what is built already
 	@tests/run
 
 bench: target/bench target/checkbench ## time a run beside a plain C interpreter, and the loading check: about a minute
@@ -46,6 +50,10 @@ check: ## prove what has changed, and run the programs
 $(ARCHIVE):
 	@echo "building $@: about a minute, and in a fresh clone about five, with a line for each crate" >&2
 	@tools/prove staticlib kiosk
+
+# The archive's code is position independent; -z text makes the linker refuse any that is not.
+target/libgpu.so: $(ARCHIVE)
+	@$(CC) -shared -Wl,-z,defs -Wl,-z,text -Wl,--whole-archive $(ARCHIVE) -Wl,--no-whole-archive -o $@
 
 target/differential: $(DIFFERENTIAL) $(ARCHIVE)
 	$(CC) $(CFLAGS) $(DIFFERENTIAL) $(ARCHIVE) -o $@
