@@ -119,7 +119,7 @@ def bad_cells():
 
 def bad_columns():
     """A column that is not known is told by its name, and nothing is run."""
-    for name, advice in (("carry", "begins with #"), ("expect rsult", "'expect result'"), ("result", "'expect result'"), ("R32", "'R3"),
+    for name, advice in (("colour", "begins with #"), ("expect rsult", "'expect result'"), ("result", "'expect result'"), ("R32", "no column"),
                          ("ram F03802", "multiple of 4"), ("ram F04000", "multiple of 4"), ("S", "the same as"), ("expect word", "no column")):
         Told(HEADER.replace("\n", f",{name}\n") + GOOD).expect(2, "row 1", f"column '{name}'", advice, "nothing was run")
     Told("s,d,expect result\n1,2,3\n").expect(2, "'instruction'")

@@ -14,9 +14,13 @@ from processor import BITS, LONGS, RAM_BASE, RAM_LENGTH, Machine
 INSTRUCTION = "instruction"
 EXPECT = "expect "
 
-# Other names of a place, as they may stand in a header.
-ALIASES = {"word": INSTRUCTION, "pc": "counter", "mode": "divide mode", "acc": "accumulator", "remain": "remainder",
-           "target": "pending", "pending target": "pending", "result": "d", "next": "counter"}
+# Other names of a place, as they may stand in a header, and the names of columns that are passed over.
+ALIASES = {"word": INSTRUCTION, "mnemonic": INSTRUCTION, "result": "d", "pc": "counter", "next": "counter", "mode": "divide mode",
+           "acc": "accumulator", "remain": "remainder", "target": "pending", "pending target": "pending"}
+REMARKS = {"", "note", "notes", "remark", "remarks", "comment", "comments", "no", "nr", "number"}
+NAMES = ("the names are instruction or word; R0 to R31; A0 to A31 of the other bank; s; d; Z; N; C; bank; divide mode; "
+         "accumulator; remainder; counter; pending; running; ram F03800 or another address; each of them behind 'expect ', and "
+         "expect result, expect answer, expect steps; note. A column of your own has a name that begins with #, and is passed over")
 REGISTERS = {f"{bank}{i}" for bank in "RA" for i in range(32)}
 ONLY_EXPECTED = {"answer", "steps"}
 
@@ -29,9 +33,9 @@ class Column(NamedTuple):
 
 
 class Case(NamedTuple):
-    """A row that can be run: its instruction's words, the machine before, and the expected number of each place."""
-    words: list
+    """A row that can be run: the machine before, and the cells that are given and expected, as name, place and number."""
     before: Machine
+    given: list
     expected: list
 
 
@@ -61,7 +65,7 @@ def place_of(name):
 def column_of(header):
     """The meaning of a header's cell."""
     name = " ".join(header.split())
-    if name == "" or name.startswith("#") or name.lower() in ("note", "notes"):
+    if name.startswith("#") or name.lower() in REMARKS:
         return Column(name, None, False)
     expected = is_expected(name)
     place = place_of(name[len(EXPECT):] if expected else name)
@@ -75,12 +79,11 @@ def column_of(header):
 
 
 def unknown(name):
-    """What to do about a column of an unknown name."""
-    known = [INSTRUCTION, "ram F03800", "note", *ALIASES, *LONGS, *BITS, *ONLY_EXPECTED, *REGISTERS, "pending", "s", "d"]
+    """What is said of a column of an unknown name."""
+    known = [INSTRUCTION, "ram F03800", *ALIASES, *LONGS, *BITS, *ONLY_EXPECTED, *REGISTERS]
     known = {each.lower(): each for each in known + [EXPECT + each for each in known]}
-    near = difflib.get_close_matches(name.lower(), known, 1)
-    meant = f"is it '{known[near[0]]}'? " if near else ""
-    return f"no column has this name: {meant}A column of your own begins with #, as '# {name}', and is passed over"
+    near = difflib.get_close_matches(name.lower(), known, 1, 0.75)
+    return "no column has this name" + (f": is it '{known[near[0]]}'?" if near else "")
 
 
 def check_long_in_ram(name, address):
@@ -186,7 +189,7 @@ def instruction_of(columns, filled, counter):
 
 def case_of(words, counter, bank, values):
     """The case of an instruction and the numbers of its columns."""
-    before, expected, named = Machine(bank), [], {}
+    before, given, expected, named = Machine(bank), [], [], {}
     for column, value in values.items():
         place = named_place(column, words)
         key = place, column.expected
@@ -199,8 +202,9 @@ def case_of(words, counter, bank, values):
         if place.startswith("ram ") and -4 < int(place[4:], 16) - counter < 2 * len(words):
             raise BadCell(column.name, f"the instruction itself stands there, at {counter:X}h: leave the cell empty, or set the "
                                        "counter to another address")
+        given.append((column.name, place, value))
         before.write(place, value)
     before.put_words(counter, words)
     if not expected:
         raise BadCell(EXPECT.strip(), "no cell of an expected column is filled, so there is nothing to compare: fill one")
-    return Case(words, before, expected)
+    return Case(before, given, expected)

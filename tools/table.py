@@ -88,7 +88,7 @@ def read_header(rows):
             columns, problems = cells.columns_of(row)
             if problems:
                 raise Unusable("\n".join(f"row {number}, column '{bad.column}': {bad}" for bad in problems)
-                               + "\nnothing was run: mend the names of the columns first")
+                               + f"\nnothing was run: mend the columns first; {cells.NAMES}")
             return columns
     raise Unusable("the table is empty")
 
@@ -179,6 +179,7 @@ class Run:
             return
         tally.differed += 1
         lines = [f"{name}: expected {wanted}, got {found}" for name, _, wanted, found, _ in differing]
+        lines.append("before: " + (", ".join(f"{name} {shown(place, value)}" for name, place, value in case.given) or "all zero"))
         hint = emulator.hint(words[0], case.before, [(place, value) for _, place, _, _, value in differing])
         self.report.row(number, "DIFFERS", text, lines + ([hint] if hint else []))
 
@@ -225,6 +226,8 @@ def run_table(given):
         raise Unusable(f"the processor, {given.library}, is not there or can not be loaded: 'make table' builds it")
     rows = rows_of(decoded(data))
     columns = read_header(rows)
+    for side, expected in (("given", False), ("expected", True)):
+        print(f"{side}: " + ", ".join(column.name for column in columns if column.place and column.expected == expected))
     report = Report(given.quiet)
     run = Run(step, report, given)
     for number, row in rows:
