@@ -26,7 +26,8 @@ GOOD = '"ADD R1,R2",1,0xFFFFFFFF,0,0,1,0,1\n'
 
 # Cells that no column takes, or not every one.
 NASTY = ["", " ", "x", "-1", "4294967296", "0x", "$", "h", "1.5", "1e9", "FFFF", "=A1+1", "#NAME?", "\u2212", "\x00", "é", "0x1FFFFFFFF",
-         "none", "ADD", "ADD R1", "JR NZ,", "LOAD (R14+),R1", "MOVEI #,R1", "9801 0000", "99999999999999999999", "R1,R2", "(", "a\nb"]
+         "none", "ADD", "ADD R1", "JR NZ,", "LOAD (R14+),R1", "MOVEI #,R1", "9801 0000", "99999999999999999999", "R1,R2", "(",
+         "9" * 5000, "0x" + "F" * 5000, "a\nb"]
 
 
 class Told:
@@ -102,7 +103,7 @@ def formats():
                  ("sep=;\r\n" + semicolons).encode(), semicolons.replace(";", "\t").encode("utf-16"),
                  b'note,instruction,d,expect result\nqualit\xe9,NEG R3,-1,1\n',
                  b'expect result,note,word,#mine\n0xFFFFFFFE,"two\nlines",0x3003,x\n'.replace(b"word", b"d,word").replace(b'",0x', b'",1,0x')):
-        Told(data).expect(0, "1 rows run: 1 agreed")
+        Told(data).expect(0, "1 row run: 1 agreed")
     Told("word,s,d,expect result\n0022,FF,1,100\n", "--hex").expect(0)
     Told("word,s,d,expect result\n5E41,1,-3,-2\n" "67Eh,,,\n").expect(2, "row 3", "'word'")
 
@@ -113,7 +114,7 @@ def bad_cells():
                           ('"ADD R1,R2",1,1,0,4294967296,0,0,0', "expect result"), ('"ADD R1",1,1,0,2,0,0,0', "instruction"),
                           (',1,1,0,2,0,0,0', "instruction"), ('"ADDQ #1,R2",1,1,0,2,0,0,0', "s"), ('"ADD R1,R2",1,1,0,,,,', "expect"),
                           ("ADD R1,R2,1,1,0,2,0,0,0", "instruction"), ('"ADD R2,R2",1,2,0,2,0,0,0', "d")):
-        Told(HEADER + GOOD + cells + "\n").expect(2, "row 3      NOT RUN", f"column '{column}'", "1 rows run: 1 agreed", "1 not run")
+        Told(HEADER + GOOD + cells + "\n").expect(2, "row 3      NOT RUN", f"column '{column}'", "1 row run: 1 agreed", "1 not run")
     Told("instruction,ram F03000,expect counter\nNOP,1,0xF03002\n").expect(2, "row 2", "column 'ram F03000'")
 
 
@@ -141,7 +142,7 @@ def nothing_confuses_it():
         out.writerow([cell.replace("\x00", "") for cell in row])
     told = Told(text.getvalue())
     assert told.status in (1, 2) and "Traceback" not in told.text, told.text[-2000:]
-    told.expect(told.status, "rows run:", "not run")
+    told.expect(told.status, " run:", "not run")
     for data in (bytes(dice.randrange(256) for _ in range(5000)), b"\x00" * 100, b"\xff\xfe\x00", HEADER.encode() + b"\x00,1\n"):
         Told(data).expect(2)
 

@@ -58,8 +58,8 @@ def place_of(name):
         return low
     if low.upper() in REGISTERS or low.upper() in BITS:
         return low.upper()
-    found = re.fullmatch(r"ram (?:0x|\$)?([0-9a-f]{6})h?", low)
-    return f"ram {found[1].upper()}" if found else None
+    found = re.fullmatch(r"ram (?:0x|\$)?([0-9a-f]{1,8})h?", low)
+    return f"ram {int(found[1], 16):X}" if found else None
 
 
 def column_of(header):
@@ -113,7 +113,7 @@ def columns_of(header):
 
 def words_of(text, address):
     """The words of an instruction's cell: hex words, or a mnemonic with operands."""
-    if re.match(r"\s*[A-Za-z]+", text) and text.split()[0].upper() in map(mnemonics.mnemonic, range(64)):
+    if re.match(r"\s*[A-Za-z]+", text) and text.split()[0].upper() in mnemonics.BY_MNEMONIC:
         return mnemonics.words_of(text, address)
     words = [re.fullmatch(r"(?:0x|\$)?([0-9A-Fa-f]{4})h?", item) for item in text.split()]
     if words and all(words):

@@ -106,11 +106,13 @@ def pattern_of(form):
 
 
 PATTERNS = [pattern_of(form) for form in OPCODES]
-FIELD_LETTERS = [re.sub(r"^\S+", "", form) for form in OPCODES]
 
 
 def mnemonic(opcode):
     return OPCODES[opcode].split()[0]
+
+
+BY_MNEMONIC = {mnemonic(opcode): [other for other in range(64) if mnemonic(other) == mnemonic(opcode)] for opcode in range(64)}
 
 
 def form(opcode):
@@ -128,9 +130,8 @@ def registers(word):
     """The registers that the source and destination fields name, as columns are named: R is the active bank, A the other.
     None for a field that names no register."""
     opcode = word >> 10
-    letters = FIELD_LETTERS[opcode]
-    source = f"{'A' if opcode == MOVEFA else 'R'}{word >> 5 & 31}" if "Rs" in letters else None
-    destination = f"{'A' if opcode == MOVETA else 'R'}{word & 31}" if "Rd" in letters else None
+    source = f"{'A' if opcode == MOVEFA else 'R'}{word >> 5 & 31}" if "Rs" in OPCODES[opcode] else None
+    destination = f"{'A' if opcode == MOVETA else 'R'}{word & 31}" if "Rd" in OPCODES[opcode] else None
     return source, destination
 
 
@@ -138,8 +139,8 @@ def words_of(text, address):
     """The words of an instruction that stands at an address, from its mnemonic and operands."""
     plain = re.sub(r"\s*([,()+#])\s*", r"\1", " ".join(text.replace("\u2212", "-").upper().split()))
     name, operands = re.fullmatch(r"(\w*)\s?(.*)", plain).groups()
-    opcodes = [opcode for opcode in range(64) if mnemonic(opcode) == name]
-    if not opcodes:
+    opcodes = BY_MNEMONIC.get(name)
+    if opcodes is None:
         raise Unreadable(f"'{text}' is no instruction: write a mnemonic with its operands, such as ADD R1,R2, or a word of "
                          "four hex digits, such as 0022")
     for opcode in opcodes:

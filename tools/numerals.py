@@ -5,7 +5,8 @@
 
 import re
 
-MARKED = re.compile(r"(?:0x|\$)([0-9a-f]+)|([0-9a-f]+)h", re.IGNORECASE)
+# More digits than any column takes are no number.
+MARKED = re.compile(r"(?:0x|\$)([0-9a-f]{1,16})|([0-9a-f]{1,16})h", re.IGNORECASE)
 
 
 class Unreadable(Exception):
@@ -18,14 +19,14 @@ def number_of(text, plain_hex=False):
     marked = MARKED.fullmatch(text)
     if marked:
         return int(marked[1] or marked[2], 16)
-    if plain_hex and re.fullmatch(r"[0-9A-Fa-f]+", text):
+    if plain_hex and re.fullmatch(r"[0-9A-Fa-f]{1,16}", text):
         return int(text, 16)
-    if re.fullmatch(r"[+-]?[0-9]+", text):
+    if re.fullmatch(r"[+-]?[0-9]{1,20}", text):
         return int(text)
     if re.fullmatch(r"[+-]?[0-9]+([.,][0-9]+)?[Ee][+-]?[0-9]+", text):
         raise Unreadable(f"'{text}' is what a spreadsheet makes of a long number: set the column's format to Text and write "
                          "the number again")
-    if re.fullmatch(r"[0-9A-Fa-f]+", text):
+    if re.fullmatch(r"[0-9A-Fa-f]{1,16}", text):
         raise Unreadable(f"'{text}' has hex letters and no mark: write 0x{text}, ${text} or {text}h")
     raise Unreadable(f"'{text}' is not a number: write a decimal number such as 31 or -1, or a hexadecimal one such as "
                      "0x1F, $1F or 1Fh")

@@ -6,8 +6,8 @@ from mnemonics import NOT_BUILT, form
 
 STYLE = """
 body { font: 16px/1.4 sans-serif; margin: 2em; color: #111; background: #fff; }
-.grid { display: grid; grid-template-columns: repeat(8, 1fr); gap: 4px; }
-.grid div { border: 1px solid #555; padding: 6px; min-height: 4.5em; break-inside: avoid; }
+.grid { display: grid; grid-template-columns: repeat(8, minmax(0, 1fr)); gap: 4px; }
+.grid div { border: 1px solid #555; padding: 6px; min-height: 4.5em; break-inside: avoid; overflow-wrap: anywhere; }
 .grid small { color: #333; }
 .grid b { display: block; font-size: 14px; }
 .agree { background: #cfe8cf; }
@@ -16,6 +16,8 @@ body { font: 16px/1.4 sans-serif; margin: 2em; color: #111; background: #fff; }
 .none { background: #fff; }
 .absent { background: repeating-linear-gradient(45deg, #ddd, #ddd 4px, #eee 4px, #eee 8px); }
 pre { white-space: pre-wrap; }
+@page { size: landscape; }
+@media print { body { font-size: 11px; margin: 0; } .grid b { font-size: 10px; } }
 """
 
 

@@ -193,7 +193,8 @@ class Run:
         return sum(getattr(tally, name) for tally in self.tallies)
 
     def summary(self):
-        return (f"{self.total('run'):,} rows run: {self.total('agreed'):,} agreed, {self.total('differed'):,} differed; "
+        run = self.total("run")
+        return (f"{run:,} {'row' if run == 1 else 'rows'} run: {self.total('agreed'):,} agreed, {self.total('differed'):,} differed; "
                 f"{self.total('unread') + self.nameless:,} not run")
 
     def print_summary(self):
@@ -226,8 +227,8 @@ def run_table(given):
         raise Unusable(f"the processor, {given.library}, is not there or can not be loaded: 'make table' builds it")
     rows = rows_of(decoded(data))
     columns = read_header(rows)
-    for side, expected in (("given", False), ("expected", True)):
-        print(f"{side}: " + ", ".join(column.name for column in columns if column.place and column.expected == expected))
+    print("given: " + ", ".join(column.name for column in columns if column.place and not column.expected))
+    print("expected: " + ", ".join(column.name[len(cells.EXPECT):] for column in columns if column.expected))
     report = Report(given.quiet)
     run = Run(step, report, given)
     for number, row in rows:
