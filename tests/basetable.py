@@ -12,12 +12,12 @@ from model import ROWS, decode, quick, signed
 
 BEFORE = ["s", "d", "R14", "R15", "Z", "N", "C", "bank", "divide mode", "accumulator", "remainder", "counter", "pending",
           "running", "ram F03800", "ram F03FFC"]
-EXPECTED = ["result", "Z", "N", "C", "counter", "pending", "answer", "steps", "remainder", "accumulator", "bank", "divide mode",
-            "running", "ram F03800", "ram F03FFC"]
+EXPECTED = ["result", "Z", "N", "C", "counter", "pending", "answer", "steps", "remainder", "accumulator", "bank",
+            "divide mode", "running", "ram F03800", "ram F03FFC"]
 
 # The names that `edges` uses, where they are not those of the columns.
-COLUMN = {"r14": "R14", "r15": "R15", "z": "Z", "n": "N", "c": "C", "mode": "divide mode", "acc": "accumulator", "pc": "counter",
-          "target": "pending", "ram": "ram F03800", "last": "ram F03FFC"}
+COLUMN = {"r14": "R14", "r15": "R15", "z": "Z", "n": "N", "c": "C", "mode": "divide mode", "acc": "accumulator",
+          "pc": "counter", "target": "pending", "ram": "ram F03800", "last": "ram F03FFC"}
 CONDITIONS = {0: "T", 1: "NZ", 2: "Z", 4: "NC", 5: "NC NZ", 6: "NC Z", 8: "C", 9: "C NZ", 10: "C Z", 20: "NN", 21: "NN NZ",
               22: "NN Z", 24: "N", 25: "N NZ", 26: "N Z"}
 
@@ -55,8 +55,8 @@ def spelt(words):
 
 
 def instruction(words, k):
-    """The cell of an instruction: its mnemonic, and in every fourth row its words. A word has 0x before it, for a spreadsheet
-    would make 41 of 0041, and of 5E41 a power of ten."""
+    """The cell of an instruction: its mnemonic, and in every fourth row its words. A word has 0x before it, for a
+    spreadsheet would make 41 of 0041, and of 5E41 a power of ten."""
     whole = ROWS.get(words[0] >> 10, ("",))[0] != "MOVEI" or len(words) == 3
     if decode(words[0]) is None or not whole or k % 4 == 3:
         return " ".join(f"0x{word:04X}" for word in words)
@@ -91,11 +91,11 @@ def machine_before(words, before):
 def seen(ram, state, word, bank):
     """The numbers of the expected columns."""
     place = named(word)["d"]
-    longs = {f"ram {address:X}": int.from_bytes(ram[address - RAM_BASE:address - RAM_BASE + 4], "big") for address in (DATA, LAST)}
+    longs = {f"ram {at:X}": int.from_bytes(ram[at - RAM_BASE:at - RAM_BASE + 4], "big") for at in (DATA, LAST)}
     return {
         "result": state.banks[bank ^ place[0]][place[1]] if place else None, "Z": state.z, "N": state.n, "C": state.c,
-        "counter": state.pc, "pending": state.target, "remainder": state.remainder, "accumulator": state.acc, "bank": state.bank,
-        "divide mode": state.mode, "running": int(state.running), **longs,
+        "counter": state.pc, "pending": state.target, "remainder": state.remainder, "accumulator": state.acc,
+        "bank": state.bank, "divide mode": state.mode, "running": int(state.running), **longs,
     }
 
 
@@ -120,17 +120,22 @@ def cell(column, value):
     return str(int(value)) if value < 100 else f"0x{value:X}"
 
 
+def row_of(k, note, words, before):
+    """The cells of the k-th row."""
+    numbers = {COLUMN.get(key, key): value for key, value in before.items()}
+    if "s" in numbers and ROWS[words[0] >> 10][0] in ("SH", "SHA"):
+        numbers["s"] = signed(numbers["s"])
+    numbers.update({f"expect {name}": value for name, value in expected(words, before).items()})
+    cells = {column: cell(column, value) for column, value in numbers.items()}
+    return {"note": note, "instruction": instruction(words, k), **cells}
+
+
 def main():
     header = ["note", "instruction"] + BEFORE + [f"expect {name}" for name in EXPECTED]
     out = csv.DictWriter(sys.stdout, header, lineterminator="\n")
     out.writeheader()
-    for k, (note, words, before) in enumerate(rows()):
-        row = {"note": note, "instruction": instruction(words, k)}
-        row.update({COLUMN.get(key, key): value for key, value in before.items()})
-        if words[0] >> 10 in (23, 26) and "s" in row:
-            row["s"] = signed(row["s"])
-        row.update({f"expect {name}": value for name, value in expected(words, before).items()})
-        out.writerow({column: value if column in ("note", "instruction") else cell(column, value) for column, value in row.items()})
+    for k, row in enumerate(rows()):
+        out.writerow(row_of(k, *row))
 
 
 if __name__ == "__main__":

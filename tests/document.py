@@ -36,7 +36,8 @@ def main():
     table = told()
     assert list(table) == sorted(ROWS), "an opcode is missing, or out of its place"
     for opcode, cells in table.items():
-        assert cells[1].strip("`").split()[0] == spelt([opcode << 10, 0, 0]).split()[0] and cells[2] == word_of(opcode), cells
+        mnemonic = spelt([opcode << 10, 0, 0]).split()[0]
+        assert cells[1].strip("`").split()[0] == mnemonic and cells[2] == word_of(opcode), cells
     compared = 0
     for note, words, before in rows():
         ram, state = machine_before(words, before)

@@ -25,21 +25,24 @@ PRODUCTS = [
     ("0 by 0", 0, 0), ("1 by 1", 1, 1), ("0 by FFFFh", 0, 0xFFFF), ("FFFFh by 0", 0xFFFF, 0), ("FFFFh by 1", 0xFFFF, 1),
     ("1 by FFFFh", 1, 0xFFFF), ("FFFFh twice", 0xFFFF, 0xFFFF), ("8000h twice", 0x8000, 0x8000), ("8000h by 2", 0x8000, 2),
     ("2 by 8000h", 2, 0x8000), ("7FFFh twice", 0x7FFF, 0x7FFF), ("8000h by 7FFFh", 0x8000, 0x7FFF),
-    ("8000h by FFFFh", 0x8000, 0xFFFF), ("bit 31 of the product", 0x8000, 0xFFFF), ("just below bit 31", 0xB504, 0xB504),
+    ("8000h by FFFFh", 0x8000, 0xFFFF), ("bit 31 of the product", 0xFFFF, 0x8001), ("just below bit 31", 0xB504, 0xB504),
     ("just above bit 31", 0xB505, 0xB505), ("high half of s ignored", 0x10000, 1), ("high half of d ignored", 1, 0x10000),
-    ("high halves ignored", 0xFFFF0003, 0xFFFF0005), ("sign of the low half only", 0x7FFF8000, 2), ("mixed", 0x12345678, 0x9ABCDEF0),
+    ("high halves ignored", 0xFFFF0003, 0xFFFF0005), ("sign of the low half only", 0x7FFF8000, 2),
+    ("mixed", 0x12345678, 0x9ABCDEF0),
 ]
 DIVISIONS = [
     ("0 by 1", 1, 0), ("1 by 1", 1, 1), ("7 by 2", 2, 7), ("divisor above dividend", 7, 2), ("by 0", 0, 7), ("0 by 0", 0, 0),
     ("FFFFFFFFh by 0", 0, TOP), ("FFFFFFFFh by 1", 1, TOP), ("FFFFFFFFh by itself", TOP, TOP), ("1 by FFFFFFFFh", TOP, 1),
-    ("by 80000000h", MIN, TOP), ("7FFFFFFFh by 80000000h", MIN, MAX), ("80000000h by 3", 3, MIN), ("10000h by 10000h", 1 << 16, 1 << 16),
-    ("quotient above 32 bits in mode 1", 1, 1 << 16), ("no remainder", 5, 1000), ("mixed", 0x1234, 0x9ABCDEF0),
+    ("by 80000000h", MIN, TOP), ("7FFFFFFFh by 80000000h", MIN, MAX), ("80000000h by 3", 3, MIN),
+    ("10000h by 10000h", 1 << 16, 1 << 16), ("quotient above 32 bits in mode 1", 1, 1 << 16), ("no remainder", 5, 1000),
+    ("mixed", 0x1234, 0x9ABCDEF0),
 ]
 VALUES = [
     ("0", 0), ("1", 1), ("2", 2), ("FEh", 254), ("255", 255), ("256", 256), ("7FFFh", 0x7FFF), ("8000h", 0x8000),
-    ("65,535", 0xFFFF), ("65,536", 0x10000), ("3FFFFFh", 0x3FFFFF), ("bit 22", 0x400000), ("bits 0 to 22", 0x7FFFFF), ("bit 23", 0x800000),
-    ("16,777,215", 0xFFFFFF), ("16,777,216", 0x1000000), ("7FFFFFFFh", MAX), ("80000000h", MIN), ("80000001h", MIN + 1),
-    ("FFFFFFFFh", TOP), ("-256", M - 256), ("a negative mantissa", 0xBFC00000), ("a mantissa", 0x3FC00000), ("every other bit", 0xAAAAAAAA),
+    ("65,535", 0xFFFF), ("65,536", 0x10000), ("3FFFFFh", 0x3FFFFF), ("bit 22", 0x400000), ("bits 0 to 22", 0x7FFFFF),
+    ("bit 23", 0x800000), ("16,777,215", 0xFFFFFF), ("16,777,216", 0x1000000), ("7FFFFFFFh", MAX), ("80000000h", MIN),
+    ("80000001h", MIN + 1), ("FFFFFFFFh", TOP), ("minus 256", M - 256), ("a negative mantissa", 0xBFC00000),
+    ("a mantissa", 0x3FC00000), ("every other bit", 0xAAAAAAAA),
 ]
 COUNTS = [0, 1, 4, 31, 32, 33, MAX, -1, -4, -31, -32, -33, -MIN]
 OUTSIDE = [("below RAM", RAM_BASE - 4), ("behind RAM", RAM_BASE + 4096), ("F02104h, not built", 0xF02104),
@@ -140,7 +143,8 @@ def moves(name):
     for note, value in VALUES:
         yield note, fields(name), vary(s=value, d=0x11111111)
     for bank in (0, 1):
-        yield f"one number twice, bank {bank}", fields(name, 9, 9), vary(bank=bank, s=0xCAFE, d=0xCAFE if name == "MOVE" else 1)
+        old = 0xCAFE if name == "MOVE" else 1
+        yield f"one number twice, bank {bank}", fields(name, 9, 9), vary(bank=bank, s=0xCAFE, d=old)
 
 
 def move_quick(name):

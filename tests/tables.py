@@ -25,9 +25,9 @@ HEADER = "instruction,s,d,C,expect result,expect Z,expect N,expect C\n"
 GOOD = '"ADD R1,R2",1,0xFFFFFFFF,0,0,1,0,1\n'
 
 # Cells that no column takes, or not every one.
-NASTY = ["", " ", "x", "-1", "4294967296", "0x", "$", "h", "1.5", "1e9", "FFFF", "=A1+1", "#NAME?", "\u2212", "\x00", "é", "0x1FFFFFFFF",
-         "none", "ADD", "ADD R1", "JR NZ,", "LOAD (R14+),R1", "MOVEI #,R1", "9801 0000", "99999999999999999999", "R1,R2", "(",
-         "9" * 5000, "0x" + "F" * 5000, "a\nb"]
+NASTY = ["", " ", "x", "-1", "4294967296", "0x", "$", "h", "1.5", "1e9", "FFFF", "=A1+1", "#NAME?", "\u2212", "é",
+         "0x1FFFFFFFF", "none", "ADD", "ADD R1", "JR NZ,", "LOAD (R14+),R1", "MOVEI #,R1", "9801 0000", "R1,R2", "(", "9" * 5000,
+         "0x" + "F" * 5000, "two\nlines"]
 
 
 class Told:
@@ -92,17 +92,26 @@ def whole_sees_other_changes():
 
 def fault_is_a_difference():
     """A fault that no cell expects is told, though register and flags are as before."""
-    Told("instruction,s,d,expect result\n" + '"LOAD (R1),R2",0xF03801,7,7\n').expect(1, "got 13 (address not a multiple of 4)")
+    table = "instruction,s,d,expect result\n" + '"LOAD (R1),R2",0xF03801,7,7\n'
+    Told(table).expect(1, "expected no fault, got 13 (address not a multiple of 4)")
 
 
 def formats():
     """The ways in which spreadsheets save the same table, and the ways to write a number."""
     table = HEADER + GOOD
-    semicolons = 'Instruction;S;D;c;EXPECT Result;expect z;Expect N;expect C;;\r\n"ADD R1,R2";1;$ffffffff;0;0h;1;0;1;;\r\n;;;;;;;;;\r\n\r\n'
-    for data in (table.encode(), b"\xef\xbb\xbf" + semicolons.encode(), table.replace("\n", "\r").encode(),
-                 ("sep=;\r\n" + semicolons).encode(), semicolons.replace(";", "\t").encode("utf-16"),
-                 b'note,instruction,d,expect result\nqualit\xe9,NEG R3,-1,1\n',
-                 b'expect result,note,word,#mine\n0xFFFFFFFE,"two\nlines",0x3003,x\n'.replace(b"word", b"d,word").replace(b'",0x', b'",1,0x')):
+    semicolons = ('Instruction;S;D;c;EXPECT Result;expect z;Expect N;expect C;;\r\n'
+                  '"ADD R1,R2";1;$ffffffff;0;0h;1;0;1;;\r\n'
+                  ';;;;;;;;;\r\n'
+                  '\r\n')
+    for data in (
+        table.encode(),
+        table.replace("\n", "\r").encode(),
+        b"\xef\xbb\xbf" + semicolons.encode(),
+        b"sep=;\r\n" + semicolons.encode(),
+        semicolons.replace(";", "\t").encode("utf-16"),
+        b"note,instruction,d,expect result\nqualit\xe9,NEG R3,-1,1\n",
+        b'expect result,note,d,#mine,word\n0xFFFFFFFE,"two\nlines",1,x,0x3003\n',
+    ):
         Told(data).expect(0, "1 row run: 1 agreed")
     Told("word,s,d,expect result\n0022,FF,1,100\n", "--hex").expect(0)
     Told("word,s,d,expect result\n5E41,1,-3,-2\n" "67Eh,,,\n").expect(2, "row 3", "'word'")
@@ -110,18 +119,29 @@ def formats():
 
 def bad_cells():
     """A cell that can not be read is told by row and column, and the other rows are run."""
-    for cells, column in (('"ADD R1,R2",1,FFFF,0,0,1,0,1', "d"), ('"ADD R1,R2",1,1,2,0,1,0,1', "C"), ("41,1,1,0,2,0,0,0", "instruction"),
-                          ('"ADD R1,R2",1,1,0,4294967296,0,0,0', "expect result"), ('"ADD R1",1,1,0,2,0,0,0', "instruction"),
-                          (',1,1,0,2,0,0,0', "instruction"), ('"ADDQ #1,R2",1,1,0,2,0,0,0', "s"), ('"ADD R1,R2",1,1,0,,,,', "expect"),
-                          ("ADD R1,R2,1,1,0,2,0,0,0", "instruction"), ('"ADD R2,R2",1,2,0,2,0,0,0', "d")):
-        Told(HEADER + GOOD + cells + "\n").expect(2, "row 3      NOT RUN", f"column '{column}'", "1 row run: 1 agreed", "1 not run")
+    for cells, column in (
+        ('"ADD R1,R2",1,FFFF,0,0,1,0,1', "d"),
+        ('"ADD R1,R2",1,1,2,0,1,0,1', "C"),
+        ('"ADD R1,R2",1,1,0,4294967296,0,0,0', "expect result"),
+        ('"ADD R1,R2",1,1,0,,,,', "expect"),
+        ('"ADD R1",1,1,0,2,0,0,0', "instruction"),
+        ("ADD R1,R2,1,1,0,2,0,0,0", "instruction"),
+        ("41,1,1,0,2,0,0,0", "instruction"),
+        (",1,1,0,2,0,0,0", "instruction"),
+        ('"ADDQ #1,R2",1,1,0,2,0,0,0', "s"),
+        ('"ADD R2,R2",1,2,0,2,0,0,0', "d"),
+    ):
+        told = Told(HEADER + GOOD + cells + "\n")
+        told.expect(2, "row 3      NOT RUN", f"column '{column}'", "1 row run: 1 agreed", "1 not run")
     Told("instruction,ram F03000,expect counter\nNOP,1,0xF03002\n").expect(2, "row 2", "column 'ram F03000'")
 
 
 def bad_columns():
     """A column that is not known is told by its name, and nothing is run."""
-    for name, advice in (("colour", "begins with #"), ("expect rsult", "'expect result'"), ("result", "'expect result'"), ("R32", "no column"),
-                         ("ram F03802", "multiple of 4"), ("ram F04000", "multiple of 4"), ("S", "the same as"), ("expect word", "no column")):
+    for name, advice in (
+        ("colour", "begins with #"), ("expect rsult", "'expect result'"), ("result", "'expect result'"), ("R32", "no column"),
+        ("ram F03802", "multiple of 4"), ("ram F04000", "multiple of 4"), ("S", "the same as"), ("expect word", "no column"),
+    ):
         Told(HEADER.replace("\n", f",{name}\n") + GOOD).expect(2, "row 1", f"column '{name}'", advice, "nothing was run")
     Told("s,d,expect result\n1,2,3\n").expect(2, "'instruction'")
     Told("").expect(2, "empty")
@@ -132,18 +152,19 @@ def bad_columns():
 def nothing_confuses_it():
     """Whatever stands in the cells, every row is told of, without a traceback."""
     dice = random.Random(1)
-    header = ["instruction", "s", "d", "R5", "A7", "Z", "bank", "counter", "pending", "ram F03800", "expect result", "expect pending",
-              "expect answer", "expect s", "expect ram F03FFC"]
+    header = ["instruction", "s", "d", "R5", "A7", "Z", "bank", "counter", "pending", "ram F03800", "expect result",
+              "expect pending", "expect answer", "expect s", "expect ram F03FFC"]
     text = io.StringIO()
     out = csv.writer(text)
     out.writerow(header)
     for _ in range(500):
-        row = [dice.choice(NASTY[:-1] if i else NASTY + ["NOP", "0022", "JR Z,$F03010"] * 9) for i in range(len(header))]
-        out.writerow([cell.replace("\x00", "") for cell in row])
+        instruction = dice.choice(NASTY + ["NOP", "0022", "JR Z,$F03010"] * 9)
+        out.writerow([instruction] + [dice.choice(NASTY) for _ in header[1:]])
     told = Told(text.getvalue())
     assert told.status in (1, 2) and "Traceback" not in told.text, told.text[-2000:]
     told.expect(told.status, " run:", "not run")
-    for data in (bytes(dice.randrange(256) for _ in range(5000)), b"\x00" * 100, b"\xff\xfe\x00", HEADER.encode() + b"\x00,1\n"):
+    noise = bytes(dice.randrange(256) for _ in range(5000))
+    for data in (noise, b"\x00" * 100, b"\xff\xfe\x00", HEADER.encode() + b"\x00,1\n", HEADER.encode() + noise):
         Told(data).expect(2)
 
 
@@ -160,7 +181,8 @@ def hints():
     for row in ('"SHLQ #4,R2",,1,,0x10000000,0,0,0,', '"ADDC R1,R2",1,-1,1,1,0,0,0,', '"MULT R1,R2",1,1,,1,0,1,,',
                 '"DIV R1,R2",2,7,,3,,,,0xFFFFFFFF', '"DIV R1,R2",0,7,,7,,,,', '"SHRQ #32,R2",,1,,1,0,0,1,'):
         Told(header + row + "\n").expect(1, hint)
-    for row in ('"SHLQ #4,R2",,1,,0x20000000,0,0,0,', '"ADDC R1,R2",1,1,1,4,0,0,0,', '"ADD R1,R2",1,1,,3,,,,', '"DIV R1,R2",2,7,,4,,,,1'):
+    for row in ('"SHLQ #4,R2",,1,,0x20000000,0,0,0,', '"ADDC R1,R2",1,1,1,4,0,0,0,', '"ADD R1,R2",1,1,,3,,,,',
+                '"DIV R1,R2",2,7,,4,,,,1'):
         assert hint not in Told(header + row + "\n").expect(1).text, row
 
 
@@ -169,7 +191,8 @@ def page_tells_each_state():
     told = Told(HEADER + GOOD + '"SUB R1,R2",1,1,,5,,,\n' + '"AND R1,R2",x,1,,1,,,\n')
     boxes = [box.split("</div>")[0] for box in told.page.split('<div class="')[2:]]
     assert len(boxes) == 64
-    for opcode, state in ((0, "✓ 1 agree"), (4, "✗ 1 of 1 differ"), (9, "! 1 not run"), (10, "no row yet"), (63, "not built")):
+    states = {0: "✓ 1 agree", 4: "✗ 1 of 1 differ", 9: "! 1 not run", 10: "no row yet", 63: "not built"}
+    for opcode, state in states.items():
         assert f"<small>{opcode}</small>" in boxes[opcode] and state in boxes[opcode], boxes[opcode]
 
 

@@ -15,12 +15,13 @@ INSTRUCTION = "instruction"
 EXPECT = "expect "
 
 # Other names of a place, as they may stand in a header, and the names of columns that are passed over.
-ALIASES = {"word": INSTRUCTION, "mnemonic": INSTRUCTION, "result": "d", "pc": "counter", "next": "counter", "mode": "divide mode",
-           "acc": "accumulator", "remain": "remainder", "target": "pending", "pending target": "pending"}
+ALIASES = {"word": INSTRUCTION, "mnemonic": INSTRUCTION, "result": "d", "pc": "counter", "next": "counter",
+           "mode": "divide mode", "acc": "accumulator", "remain": "remainder", "target": "pending"}
 REMARKS = {"", "note", "notes", "remark", "remarks", "comment", "comments", "no", "nr", "number"}
 NAMES = ("the names are instruction or word; R0 to R31; A0 to A31 of the other bank; s; d; Z; N; C; bank; divide mode; "
-         "accumulator; remainder; counter; pending; running; ram F03800 or another address; each of them behind 'expect ', and "
-         "expect result, expect answer, expect steps; note. A column of your own has a name that begins with #, and is passed over")
+         "accumulator; remainder; counter; pending; running; ram F03800 or another address; each of them behind 'expect ', "
+         "and expect result, expect answer, expect steps; note. A column of your own has a name that begins with #, and is "
+         "passed over")
 REGISTERS = {f"{bank}{i}" for bank in "RA" for i in range(32)}
 ONLY_EXPECTED = {"answer", "steps"}
 
@@ -99,8 +100,8 @@ def columns_of(header):
             column = column_of(cell)
             key = column.place, column.expected
             if column.place and key in seen:
-                raise BadCell(column.name, f"means the same as the column '{seen[key]}': leave one of them out, or give it a "
-                                           "name that begins with #")
+                raise BadCell(column.name, f"means the same as the column '{seen[key]}': leave one of them out, or give it "
+                                           "a name that begins with #")
             seen[key] = column.name
             columns.append(column)
         except BadCell as bad:
@@ -122,8 +123,8 @@ def words_of(text, address):
             return words
         raise Unreadable("has more than one word: only MOVEI has three, its low word before its high word")
     if re.fullmatch(r"[0-9][0-9A-Fa-f.,+]*", text):
-        raise Unreadable(f"'{text}' is not a word of four hex digits. A spreadsheet changes 0022 to 22 and 5E41 to a power of "
-                         "ten: set the column's format to Text, or write 0x before the word")
+        raise Unreadable(f"'{text}' is not a word of four hex digits. A spreadsheet changes 0022 to 22 and 5E41 to a power "
+                         "of ten: set the column's format to Text, or write 0x before the word")
     return mnemonics.words_of(text, address)
 
 
@@ -155,6 +156,9 @@ def named_place(column, words):
 
 def read_row(columns, cells, plain_hex=False):
     """The words of a row's instruction, its case, and the problems of its cells; None for what can not be read."""
+    if any(cell.strip() for cell in cells[len(columns):]):
+        return None, None, [BadCell(INSTRUCTION, "the row has more cells than the header. If an instruction has a comma, "
+                                                 'the file must have it in quotation marks: "ADD R1,R2"')]
     problems, values = [], {}
     filled = [(column, cell.strip()) for column, cell in zip(columns, cells) if column.place and cell.strip()]
     for column, text in filled:
@@ -194,14 +198,15 @@ def case_of(words, counter, bank, values):
         place = named_place(column, words)
         key = place, column.expected
         if key in named and named[key][1] != value:
-            raise BadCell(column.name, f"is the same register as the column '{named[key][0]}' in this row, with another number")
+            raise BadCell(column.name, f"is the same register as the column '{named[key][0]}' in this row, and has another "
+                                       "number")
         named[key] = column.name, value
         if column.expected:
             expected.append((column.name[len(EXPECT):], place, value))
             continue
         if place.startswith("ram ") and -4 < int(place[4:], 16) - counter < 2 * len(words):
-            raise BadCell(column.name, f"the instruction itself stands there, at {counter:X}h: leave the cell empty, or set the "
-                                       "counter to another address")
+            raise BadCell(column.name, f"the instruction itself stands there, at {counter:X}h: leave the cell empty, or set "
+                                       "the counter to another address")
         given.append((column.name, place, value))
         before.write(place, value)
     before.put_words(counter, words)

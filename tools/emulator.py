@@ -1,6 +1,6 @@
-"""Where Virtual Jaguar 2.1.3, an emulator that others wrote, is known to differ from paper 01: docs/INSTRUCTIONS.md says more.
+"""Where Virtual Jaguar 2.1.3, an emulator that others wrote, is known to differ from paper 01.
 
-A table may come from such a source, so a difference of this kind is named in the report.
+A table may come from such a source, so a difference of this kind is named in the report. docs/INSTRUCTIONS.md says more.
 """
 
 from typing import NamedTuple
@@ -11,7 +11,7 @@ M = 2 ** 32
 
 
 class Row(NamedTuple):
-    """The source field, the contents of the registers and C before the step, and what was expected where that did not come."""
+    """The source field, the registers and C before the step, and what was expected where something else came."""
     field: int
     s: int
     d: int

@@ -38,7 +38,7 @@ CONDITION_NAMES = {bits: name for name, bits in reversed(list(CONDITIONS.items()
 CONDITION_BITS = {frozenset(name.split()): bits for name, bits in CONDITIONS.items()}
 
 
-# Each operand that is no register: its text to the field, and the field to its text. JR's also takes the address of its target.
+# Each operand that is no register: its text to the field, and the field to its text. JR's may be the address of its target.
 
 def quick(text, address):
     return in_range(number_of(text), 1, 32, "the number") % 32
@@ -60,8 +60,8 @@ def offset(text, address):
         raise Unreadable(f"{number:X}h is odd: a target is an even address")
     words = (number - address - 2) // 2
     if not -16 <= words <= 15:
-        raise Unreadable(f"JR does not reach {number:X}h from {address:X}h: write an offset of -16 to 15 words behind the next "
-                         f"instruction, or a target from {address - 30:X}h to {address + 32:X}h")
+        raise Unreadable(f"JR does not reach {number:X}h from {address:X}h: write an offset of -16 to 15 words behind the "
+                         f"next instruction, or a target from {address - 30:X}h to {address + 32:X}h")
     return words % 32
 
 
@@ -112,7 +112,9 @@ def mnemonic(opcode):
     return OPCODES[opcode].split()[0]
 
 
-BY_MNEMONIC = {mnemonic(opcode): [other for other in range(64) if mnemonic(other) == mnemonic(opcode)] for opcode in range(64)}
+BY_MNEMONIC = {}
+for each in range(64):
+    BY_MNEMONIC.setdefault(mnemonic(each), []).append(each)
 
 
 def form(opcode):

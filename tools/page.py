@@ -55,8 +55,8 @@ def page_of(name, summary, tallies, differing):
 <h1>{escape(name)}</h1>
 <p>{escape(summary)}</p>
 <p>Each box is one opcode: its number, the instruction, and how many rows of the table agree with the processor.
-✓ all rows agree. ✗ some rows differ (thick border). ! some rows could not be run (broken border). – the table has no row for
-it. Hatched: the instruction is not built, and its word is answered with 11.</p>
+✓ all rows agree. ✗ some rows differ (thick border). ! some rows could not be run (broken border). – the table has no row
+for it. Hatched: the instruction is not built, and its word is answered with 11.</p>
 <div class="grid">
 {cells}
 </div>
