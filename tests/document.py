@@ -38,8 +38,10 @@ def main():
     for opcode, cells in table.items():
         mnemonic = spelt([opcode << 10, 0, 0]).split()[0]
         assert cells[1].strip("`").split()[0] == mnemonic and cells[2] == word_of(opcode), cells
+    every = list(rows())
+    assert f"{len(every):,} rows of ours" in DOCUMENT.read_text("utf-8"), "the number of rows in base.csv"
     compared = 0
-    for note, words, before in rows():
+    for note, words, before in every:
         ram, state = machine_before(words, before)
         answer, _, ram_after, after = run(ram, state, 1)
         if answer > 1 or decode(words[0]) is None or not state.running:

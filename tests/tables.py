@@ -134,6 +134,7 @@ def bad_cells():
         told = Told(HEADER + GOOD + cells + "\n")
         told.expect(2, "row 3      NOT RUN", f"column '{column}'", "1 row run: 1 agreed", "1 not run")
     Told("instruction,ram F03000,expect counter\nNOP,1,0xF03002\n").expect(2, "row 2", "column 'ram F03000'")
+    Told("instruction,,expect counter\nNOP,1,0xF03002\n").expect(2, "row 2", "column 'number 2'")
 
 
 def bad_columns():
@@ -166,6 +167,15 @@ def nothing_confuses_it():
     noise = bytes(dice.randrange(256) for _ in range(5000))
     for data in (noise, b"\x00" * 100, b"\xff\xfe\x00", HEADER.encode() + b"\x00,1\n", HEADER.encode() + noise):
         Told(data).expect(2)
+
+
+def examples_of_the_document():
+    """The tables that docs/INSTRUCTIONS.md shows."""
+    blocks = (ROOT / "docs" / "INSTRUCTIONS.md").read_text("utf-8").split("\n\n")
+    tables = [block.replace("\n    ", "\n").strip() + "\n" for block in blocks if block.startswith("    instruction,")]
+    assert len(tables) == 2, tables
+    for table in tables:
+        Told(table).expect(0)
 
 
 def other_failures():
@@ -209,7 +219,7 @@ def mnemonics_both_ways():
 def main():
     rows = base_agrees()
     for test in (each_wrong_cell_is_found, whole_sees_other_changes, fault_is_a_difference, formats, bad_cells, bad_columns,
-                 nothing_confuses_it, other_failures, hints, page_tells_each_state):
+                 nothing_confuses_it, examples_of_the_document, other_failures, hints, page_tells_each_state):
         test()
     words = mnemonics_both_ways()
     print(f"tables: {rows:,} rows of docs/vectors/base.csv agree; {words:,} words are read and written alike; "

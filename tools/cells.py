@@ -48,10 +48,6 @@ class BadCell(Exception):
         self.column = column
 
 
-def is_expected(name):
-    return name.lower().startswith(EXPECT)
-
-
 def place_of(name):
     """The place that a name without its `expect` stands for, or None."""
     low = ALIASES.get(name.lower(), name.lower())
@@ -65,10 +61,10 @@ def place_of(name):
 
 def column_of(header):
     """The meaning of a header's cell."""
-    name = " ".join(header.split())
+    name = re.sub(r"(?i)^expect(?:ed)? ", EXPECT, " ".join(header.split()))
     if name.startswith("#") or name.lower() in REMARKS:
         return Column(name, None, False)
-    expected = is_expected(name)
+    expected = name.startswith(EXPECT)
     place = place_of(name[len(EXPECT):] if expected else name)
     if place is None or expected and place == INSTRUCTION:
         raise BadCell(name, unknown(name))
@@ -133,9 +129,9 @@ def value_of(place, text, plain_hex):
     if place == "pending" and text.lower() == "none":
         return None
     if place in BITS:
-        return in_range(number_of(text), 0, 1, f"{place}")
+        return in_range(number_of(text), 0, 1, place)
     if place in ONLY_EXPECTED:
-        return in_range(number_of(text), 0, 255, f"{place}")
+        return in_range(number_of(text), 0, 255, place)
     try:
         return long_of(text, plain_hex)
     except Unreadable as told:
@@ -160,6 +156,9 @@ def read_row(columns, cells, plain_hex=False):
         return None, None, [BadCell(INSTRUCTION, "the row has more cells than the header. If an instruction has a comma, "
                                                  'the file must have it in quotation marks: "ADD R1,R2"')]
     problems, values = [], {}
+    for i, (column, cell) in enumerate(zip(columns, cells), 1):
+        if not column.name and cell.strip():
+            problems.append(BadCell(f"number {i}", "has no name in the first row: give it one, or a name that begins with #"))
     filled = [(column, cell.strip()) for column, cell in zip(columns, cells) if column.place and cell.strip()]
     for column, text in filled:
         try:

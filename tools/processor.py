@@ -51,7 +51,7 @@ class Machine:
     def status(self):
         return int.from_bytes(self.block[STATUS:], "big")
 
-    def with_status(self, bit, value):
+    def set_status(self, bit, value):
         status = self.status() & ~bit | (bit if value else 0)
         self.block[STATUS:] = status.to_bytes(4, "big")
 
@@ -66,9 +66,9 @@ class Machine:
 
     def write(self, name, value):
         if name in BITS:
-            return self.with_status(BITS[name], value)
+            return self.set_status(BITS[name], value)
         if name == "pending":
-            self.with_status(PENDING, value is not None)
+            self.set_status(PENDING, value is not None)
             buffer, offset = self.block, TARGET
         else:
             buffer, offset = self.place(name)
