@@ -113,7 +113,7 @@ def formats():
         b'expect result,note,d,#mine,word\n0xFFFFFFFE,"two\nlines",1,x,0x3003\n',
     ):
         Told(data).expect(0, "1 row run: 1 agreed")
-    Told("word,s,d,expect result\n0022,FF,1,100\n", "--hex").expect(0)
+    Told("word,s,d,expect result\n0022,FF,1,100\n0022,-10,20,0x10\n", "--hex").expect(0, "2 rows run: 2 agreed")
     Told("word,s,d,expect result\n5E41,1,-3,-2\n" "67Eh,,,\n").expect(2, "row 3", "'word'")
 
 

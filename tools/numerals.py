@@ -19,7 +19,7 @@ def number_of(text, plain_hex=False):
     marked = MARKED.fullmatch(text)
     if marked:
         return int(marked[1] or marked[2], 16)
-    if plain_hex and re.fullmatch(r"[0-9A-Fa-f]{1,16}", text):
+    if plain_hex and re.fullmatch(r"[+-]?[0-9A-Fa-f]{1,16}", text):
         return int(text, 16)
     if re.fullmatch(r"[+-]?[0-9]{1,20}", text):
         return int(text)
