@@ -212,7 +212,12 @@ def mnemonics_both_ways():
     for each in words:
         text = spelt(each)
         assert mnemonics.words_of(text, 0xF03000) == each and mnemonics.text_of(each) == text, text
-    assert mnemonics.words_of("jump mi, (r5)", 0) == [0xD0B8] and mnemonics.words_of("JR NE,$F0300A", 0xF03000) == [0xD481]
+    # Document 001, section 3.2.6.1, and a jump without a condition; then a JR by the address of its target.
+    vectors = {"CC,": 0b00100, "CS,": 0b01000, "EQ,": 0b00010, "mi,": 0b11000, "NE, ": 0b00001, "PL,": 0b10100, "HI,": 0b00101,
+               "T,": 0b00000, "": 0b00000}
+    for name, bits in vectors.items():
+        assert mnemonics.words_of(f"jump {name}(R5)", 0) == [52 << 10 | 5 << 5 | bits], name
+    assert mnemonics.words_of("JR NE,$F0300A", 0xF03000) == [53 << 10 | 4 << 5 | 1]
     return len(words)
 
 
