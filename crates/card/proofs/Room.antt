@@ -5,7 +5,7 @@ use mathlib.Core.Path.{_≡_, ap}
 use mathlib.Core.List.{List}
 use native.Mathlib.Omega.{arith}
 use lib.ListN.{length, length-append}
-use Rattle.card.specs.Image.{Printed, printed, printedOf}
+use Rattle.card.specs.Image.{printed, printedOf}
 
 pub room : {count : ℕ} {out ram : List ℕ} (ram₀ out₀ : List ℕ) → printed count out ram ≡ printedOf ram₀ out₀ → count ≤ length out
 unfolding printedOf

@@ -29,7 +29,7 @@ use Rattle.cpu.specs.declared.apply.Loaded.{Loaded}
 use Rattle.cpu.specs.declared.apply.Loaded.the-variants as L
 use Rattle.memory.specs.declared.Immediate.{Immediate}
 use Rattle.memory.specs.declared.Immediate.the-variants as I
-use Rattle.cpu.specs.Step.{View, Outcome, Written, inActive, immediateWritten, moveImmediateOf, moveCounterOf, moveLoadedOf, loadOf, storeOf, applyOf, operandsOf, unwritten, stayOf, doneOf, jumpOf, executeOf, fetchedOf, activeOf, advanceOf}
+use Rattle.cpu.specs.Step.{View, Outcome, inActive, immediateWritten, moveImmediateOf, moveCounterOf, moveLoadedOf, loadOf, storeOf, applyOf, operandsOf, unwritten, stayOf, doneOf, jumpOf, executeOf, fetchedOf, activeOf, advanceOf}
 
 module _ (P : Processor) (ram : List ℕ) (v : View) where
   abbrev Untouched : Outcome → Type 0

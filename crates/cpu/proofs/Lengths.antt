@@ -1,11 +1,11 @@
 -- An instruction keeps the length of RAM and of both banks, at every processor.
 -- Assumes nothing.
-use Prim.Native.Nat.{ℕ, _+_, _%_}
+use Prim.Native.Nat.{ℕ}
 use mathlib.Core.Path.{_≡_, refl, _∙_}
 use mathlib.Core.Bool.{Bool, true, false, cond}
 use mathlib.Core.List.{List}
 use lib.Dec.{eqb}
-use lib.ListN.{length, getD, set, length-set}
+use lib.ListN.{length, length-set}
 use Rattle.isa.specs.Words.{decodeOf}
 use Rattle.memory.specs.Processor.{Processor}
 use Rattle.memory.specs.Memory.{immediateOf, placeOf, fetchOf}
@@ -26,7 +26,7 @@ use Rattle.cpu.specs.declared.apply.Loaded.{Loaded}
 use Rattle.cpu.specs.declared.apply.Loaded.the-variants as L
 use Rattle.memory.specs.declared.Immediate.{Immediate}
 use Rattle.memory.specs.declared.Immediate.the-variants as I
-use Rattle.cpu.specs.Step.{View, Outcome, Written, immediateWritten, moveImmediateOf, moveCounterOf, moveLoadedOf, loadOf, storeOf, sameBank, applyOf, operandsOf, executeOf, fetchedOf, activeOf, advanceOf}
+use Rattle.cpu.specs.Step.{View, Outcome, immediateWritten, moveImmediateOf, moveCounterOf, moveLoadedOf, loadOf, storeOf, sameBank, applyOf, operandsOf, executeOf, fetchedOf, activeOf, advanceOf}
 
 -- the lengths of RAM, the active bank and the other one
 pub record Lengths (r a o : ℕ) (ram : List ℕ) (v : View) : Type 0 where

@@ -1,7 +1,7 @@
 -- An instruction keeps widths, at every processor: bytes of RAM, words of 32 bits in the registers, and flags below any bound
 -- of at least 2.
 -- Assumes nothing.
-use Prim.Native.Nat.{ℕ, zero, suc, _+_, _-_, _*_, _/_, _%_, _^_, _<_, _≤_}
+use Prim.Native.Nat.{ℕ, zero, suc, _+_, _-_, _/_, _%_, _^_, _<_, _≤_}
 use mathlib.Core.Bool.{Bool, true, false, cond}
 use mathlib.Core.List.{List, [], _∷_}
 use native.Mathlib.Omega.{arith}
@@ -11,7 +11,7 @@ use Rattle.alu.specs.Jump.{takenOf}
 use Rattle.isa.specs.Words.{decodeOf}
 use Rattle.values.specs.Results.{flagsOf}
 use Rattle.memory.specs.Processor.{Processor}
-use Rattle.memory.specs.Memory.{lowOf, highOf, immediateOf, wordAt, longAt, putLong, placeOf, fetchOf}
+use Rattle.memory.specs.Memory.{lowOf, immediateOf, wordAt, longAt, putLong, placeOf, fetchOf}
 use Rattle.memory.specs.declared.Fetched.{Fetched}
 use Rattle.memory.specs.declared.Fetched.the-variants as F
 use Rattle.memory.specs.declared.Place.{Place}
@@ -19,9 +19,9 @@ use Rattle.memory.specs.declared.Place.the-variants as M
 use Rattle.effect.specs.Effects.{effectIn}
 use Rattle.effect.specs.declared.Effect.{Effect}
 use Rattle.effect.specs.declared.Effect.the-variants as E
-use Rattle.effect.proofs.Widths.{Fit, FlagsFit, flags-fit}
+use Rattle.effect.proofs.Widths.{FlagsFit, flags-fit}
 use Rattle.effect.proofs.EffectWidths.{OperandsFit, EffectFits, effect-fits}
-use Rattle.state.specs.State.{counterOf, movedOf, skippedOf, withFlags, withRemainder, withAccumulator, withMode, withControl, withFlagRegister, flagRegisterOf}
+use Rattle.state.specs.State.{counterOf, movedOf, skippedOf, withFlags, withRemainder, withAccumulator, withMode, withControl, withFlagRegister}
 use Rattle.state.specs.declared.Core.{Core}
 use Rattle.state.specs.declared.Pending.{Pending}
 use Rattle.state.specs.declared.Pending.the-variants.{None, At}

@@ -1,5 +1,5 @@
 -- One instruction: what it answers, and the state and RAM after it.
-use Prim.Native.Nat.{ℕ, _+_, _*_, _/_, _%_, _^_}
+use Prim.Native.Nat.{ℕ, _/_, _%_}
 use mathlib.Core.Bool.{Bool, cond}
 use mathlib.Core.List.{List}
 use lib.Dec.{eqb}
@@ -7,8 +7,6 @@ use lib.ListN.{length, getD, set}
 use Rattle.alu.specs.Jump.{takenOf}
 use Rattle.isa.specs.Words.{decodeOf}
 use Rattle.values.specs.Results.{flagsOf}
-use Rattle.values.specs.declared.Computed.{Computed}
-use Rattle.multiplier.specs.declared.divide.Divided.{Divided}
 use Rattle.effect.specs.Effects.{effectIn}
 use Rattle.effect.specs.declared.Effect.{Effect}
 use Rattle.effect.specs.declared.Effect.the-variants as E

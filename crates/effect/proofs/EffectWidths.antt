@@ -1,13 +1,12 @@
 -- What an instruction computes fits: words of 32 bits and flags of one bit, where its operands do.
 -- Assumes nothing.
-use Prim.Native.Nat.{ℕ, _+_, _*_, _/_, _%_, _^_, _<_, _≤_}
+use Prim.Native.Nat.{ℕ, _/_, _%_, _^_, _<_, _≤_}
 use mathlib.Core.Bool.{Bool, true, false, cond}
 use mathlib.Core.List.{List, [], _∷_}
 use native.Mathlib.Omega.{arith}
 use lib.Dec.{eqb}
 use Rattle.isa.specs.declared.Instr.{Instr}
-use Rattle.isa.specs.declared.Instr.the-variants.{Add, Addc, Addq, Addqt, Sub, Subc, Subq, Subqt, Neg, And, Or, Xor, Not, Btst, Bset, Bclr, Mult, Imult, Imultn, Resmac, Imacn, Div, Abs, Sh, Shlq, Shrq, Sha, Sharq, Ror, Rorq, Cmp, Cmpq, Sat8, Sat16, Move, Moveq, Moveta, Movefa, Movei, Load, LoadR14n, LoadR15n, Store, StoreR14n, StoreR15n, MovePc, Jump, Jr, Mtoi, Normi, Nop, LoadR14r, LoadR15r, StoreR14r, StoreR15r, Sat24}
-use Rattle.isa.specs.declared.Decoded.{Decoded}
+use Rattle.isa.specs.declared.Instr.the-variants.{Load, Store, Jump, Nop}
 use Rattle.isa.specs.declared.Decoded.the-variants as D
 use Rattle.isa.specs.Fields.{quickOf, signedFieldOf}
 use Rattle.isa.specs.Table.{formOf, instructions}

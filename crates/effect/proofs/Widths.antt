@@ -1,27 +1,25 @@
 -- Every operation's result fits 32 bits, and its flags stay below any bound of at least 2, where its operands fit.
 -- Assumes nothing.
 use Prim.Native.Nat.{ℕ, _+_, _-_, _*_, _/_, _%_, _^_, _<_, _≤_}
-use mathlib.Core.Path.{_≡_, refl, sym, ap, subst, _∙_}
+use mathlib.Core.Path.{_≡_, refl, subst}
 use mathlib.Core.Bool.{Bool, true, false, cond}
 use native.Mathlib.Omega.{arith}
 use native.Mathlib.Nat.{lt-of-le-of-lt, lt-trans, mod-lt}
-use borrow.Author.Tests.{eqb-true, eqb-false, ltb-true, ltb-false}
+use borrow.Author.Tests.{eqb-false, ltb-false}
 use lib.Dec.{eqb, ltb}
-use lib.Bits.{bitAnd, bitOr, bitXor, and-le-l, or-lt, xor-lt}
+use lib.Bits.{and-le-l, or-lt, xor-lt}
 use lib.Pow.{pow-lt, shr-le}
-use lib.Count.{leadingZeros}
-use lib.IntN.{ℤ, pos, negsuc, natAbs, _*ℤ_}
-use lib.Signed.{natAbs-le, shrZ, ltZ}
-use mir.Syntax.{w16, w32}
-use mir.Val.{toZ, ofZ, Fits, SFits}
+use lib.IntN.{ℤ, pos, negsuc, natAbs}
+use lib.Signed.{natAbs-le, ltZ}
+use mir.Syntax.{w32}
+use mir.Val.{toZ}
 use mir.Facts.{sfits-toZ, fits-ofZ}
 use Rattle.values.specs.declared.Computed.{Computed}
 use Rattle.values.specs.declared.Flags.{Flags}
 use Rattle.values.specs.Results.{bitOf, computedOf, flagsOf}
 use Rattle.values.proofs.TwosComplement.{mul-fits, narrow, shr-fits}
-use Rattle.alu.specs.Add.{addOf, addcOf, subOf, subcOf, negOf, absOf, cmpOf}
-use Rattle.alu.specs.Logic.{andOf, orOf, xorOf, notOf, btstOf, bsetOf, bclrOf}
-use Rattle.multiplier.specs.declared.divide.Divided.{Divided}
+use Rattle.alu.specs.Add.{addOf, addcOf, subOf, subcOf, absOf}
+use Rattle.alu.specs.Logic.{andOf, orOf, xorOf, notOf, bsetOf, bclrOf}
 use Rattle.multiplier.specs.Multiply.{multOf, productOf, imultOf}
 use Rattle.multiplier.specs.Divide.{divideOf, divOf}
 use Rattle.multiplier.proofs.Products.{product-fits}

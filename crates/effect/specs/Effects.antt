@@ -9,7 +9,6 @@ use Rattle.isa.specs.declared.Instr.the-variants.{Add, Addc, Addq, Addqt, Sub, 
 use Rattle.isa.specs.declared.Decoded.{Decoded}
 use Rattle.isa.specs.declared.Decoded.the-variants as D
 use Rattle.isa.specs.Fields.{quickOf, signedFieldOf}
-use Rattle.values.specs.declared.Computed.{Computed}
 use Rattle.values.specs.declared.Flags.{Flags}
 use Rattle.alu.specs.Add.{addOf, addcOf, subOf, subcOf, negOf, absOf, cmpOf, cmpqOf}
 use Rattle.alu.specs.Logic.{andOf, orOf, xorOf, notOf, btstOf, bsetOf, bclrOf}

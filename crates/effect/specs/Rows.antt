@@ -4,10 +4,8 @@ use mathlib.Core.Path.{_≡_, refl}
 use mathlib.Core.List.{List, [], _∷_, map}
 use lib.Count.{leadingZeros}
 use Rattle.isa.specs.Words.{decodeOf, decodedAt, instructionAt}
-use Rattle.values.specs.declared.Computed.{Computed}
 use Rattle.values.specs.declared.Flags.{Flags}
 use Rattle.values.specs.Results.{flagsOf}
-use Rattle.effect.specs.declared.Operands.{Operands}
 use Rattle.effect.specs.declared.Effect.{Effect}
 use Rattle.effect.specs.declared.Effect.the-variants as E
 use Rattle.effect.specs.Effects.{effectIn}

@@ -1,6 +1,5 @@
 // What an instruction does, told from what it reads: the view of it that a step takes.
 ghost use mathlib.Core.Path.{_≡_};
-ghost use mathlib.Core.Bool.{cond};
 ghost use Prim.Native.Nat.{_<_};
 ghost use lib.Dec.{eqb};
 ghost use Rattle.alu.specs.Add.{addOf, subOf};

@@ -1,7 +1,6 @@
 // The instruction words of the graphics processor: one Instr for each built instruction, decode and encode.
 //
 // The numbers are those of source document 001, section 5.0; which words are built is paper 01's, "Words".
-ghost use mathlib.Core.Path.{_≡_};
 
 mod field;
 mod form;

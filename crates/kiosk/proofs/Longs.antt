@@ -9,8 +9,7 @@ use native.Mathlib.Nat.{div-add-mod', mul-comm, add-comm}
 use lib.Pow.{shr-shr}
 use borrow.Author.Tests.{ltb-true, ltb-false}
 use lib.Dec.{ltb}
-use native.Mathlib.Numerals.{add-one}
-use lib.ListN.{length, getD, set, length-append, List·getD-append}
+use lib.ListN.{length, getD, length-append, List·getD-append}
 use lib.Seq.{set-getD, getD-append-seam}
 use Rattle.memory.specs.Memory.{longAt, putLong}
 use Rattle.kiosk.specs.Block.{longs, putLongs}

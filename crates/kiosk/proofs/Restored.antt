@@ -9,17 +9,15 @@ use lib.Dec.{eqb}
 use lib.ListN.{length, getD}
 use lib.Seq.{ext-getD}
 use Rattle.memory.specs.Memory.{longAt, putLong}
-use Rattle.values.specs.declared.Flags.{Flags}
-use Rattle.state.specs.State.{bankIn, flagsIn}
 use Rattle.state.specs.declared.Core.{Core}
 use Rattle.state.specs.declared.Pending.{Pending}
 use Rattle.state.specs.declared.Pending.the-variants.{None, At}
 use Rattle.state.specs.declared.Activity.{Activity}
 use Rattle.state.specs.declared.Activity.the-variants.{Running, Stopped}
 use Rattle.machine.specs.declared.State.{State}
-use Rattle.kiosk.specs.Block.{longs, putLongs, pendingIn, activityIn, coreFrom, coreAt, stateAt, targetOf, pendingBit, activityBit, statusOf, putCore, putState}
+use Rattle.kiosk.specs.Block.{longs, putLongs, coreFrom, coreAt, stateAt, targetOf, pendingBit, activityBit, statusOf, putCore, putState}
 use Rattle.kiosk.proofs.Longs.{longs-length, longs-at}
-use Rattle.kiosk.proofs.Stored.{put-length, same, below, above, puts-length, puts-below, puts-at}
+use Rattle.kiosk.proofs.Stored.{put-length, same, below, puts-length, puts-below, puts-at}
 
 -- seven bits with gaps between them, each taken out again
 module _ (z c n b a p m : ℕ) (hz : z < 2) (hc : c < 2) (hn : n < 2) (hb : b < 2) (ha : a < 2) (hp : p < 2) (hm : m < 2) where

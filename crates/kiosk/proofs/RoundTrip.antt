@@ -1,16 +1,16 @@
 -- A valid block, read and written back, is the same block: what the status and the target tell is told again.
 -- Assumes nothing.
-use Prim.Native.Nat.{ℕ, _+_, _*_, _/_, _%_, _^_, _<_, _≤_}
-use mathlib.Core.Path.{_≡_, refl, sym, ap, _∙_}
+use Prim.Native.Nat.{ℕ, _+_, _*_, _/_, _%_, _^_}
+use mathlib.Core.Path.{_≡_, refl, sym}
 use mathlib.Core.Bool.{Bool, true, false, cond}
 use mathlib.Core.List.{List}
 use native.Mathlib.Omega.{arith}
 use borrow.Author.Tests.{eqb-true, eqb-false}
 use lib.Dec.{eqb}
-use Rattle.memory.specs.Memory.{longAt, putLong}
+use Rattle.memory.specs.Memory.{longAt}
 use Rattle.state.specs.declared.Pending.the-variants.{None, At}
 use Rattle.state.specs.declared.Activity.the-variants.{Running, Stopped}
-use Rattle.kiosk.specs.Block.{validOf, pendingIn, activityIn, coreFrom, coreAt, stateAt, targetOf, pendingBit, activityBit, statusOf, putCore, putLongs, putState}
+use Rattle.kiosk.specs.Block.{validOf, pendingIn, activityIn, coreFrom, coreAt, stateAt, targetOf, pendingBit, activityBit, statusOf, putCore, putState}
 use Rattle.kiosk.proofs.Longs.{Bytes, digits, put-back, bank-back}
 
 -- what a valid status and target are

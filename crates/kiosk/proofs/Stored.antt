@@ -1,17 +1,17 @@
 -- A long that was stored is read as it was stored, and storing it leaves the longs beside it.
 -- Assumes nothing.
 use Prim.Native.Nat.{ℕ, zero, suc, _+_, _*_, _/_, _%_, _^_, _<_, _≤_}
-use mathlib.Core.Path.{_≡_, refl, sym, ap, subst, _∙_}
+use mathlib.Core.Path.{_≡_, refl, sym, subst, _∙_}
 use mathlib.Core.Bool.{Bool, true, false}
-use mathlib.Core.List.{List, [], _∷_, _++_}
+use mathlib.Core.List.{List}
 use native.Mathlib.Omega.{arith}
 use borrow.Author.Tests.{ltb-true, ltb-false}
 use lib.Dec.{ltb}
 use lib.ListN.{length, getD, set, length-set}
-use lib.Seq.{getD-set-same, getD-set-other, ext-getD}
+use lib.Seq.{getD-set-same, getD-set-other}
 use Rattle.memory.specs.Memory.{longAt, putLong}
-use Rattle.kiosk.specs.Block.{longs, putLongs}
-use Rattle.kiosk.proofs.Longs.{digits, longs-length, longs-at}
+use Rattle.kiosk.specs.Block.{putLongs}
+use Rattle.kiosk.proofs.Longs.{digits}
 
 pub put-length : (l : List ℕ) (i v : ℕ) → length (putLong l i v) ≡ length l
 put-length l i v = simp length-set

@@ -5,7 +5,6 @@ use mathlib.Core.List.{List, [], _∷_, _++_}
 use lib.Dec.{eqb}
 use lib.ListN.{getD}
 use Rattle.memory.specs.Memory.{longAt, putLong}
-use Rattle.values.specs.declared.Flags.{Flags}
 use Rattle.state.specs.State.{flagsIn, bankIn, flagRegisterOf}
 use Rattle.state.specs.declared.Core.{Core}
 use Rattle.state.specs.declared.Pending.{Pending}

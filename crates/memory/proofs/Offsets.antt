@@ -8,12 +8,11 @@ use native.Mathlib.Omega.{arith}
 use borrow.Author.Tests.{eq-eqb, ne-eqb, lt-ltb, le-ltb, ltb-true, ltb-false}
 use lib.Dec.{eqb, ltb}
 use lib.ListN.{length}
-use Rattle.memory.specs.Processor.{Processor, gpu}
-use Rattle.memory.specs.Memory.{wordAt, fetchOf, lowOf, highOf, immediateOf, placeOf, registerOf}
+use Rattle.memory.specs.Processor.{gpu}
+use Rattle.memory.specs.Memory.{wordAt, fetchOf, lowOf, immediateOf, placeOf, registerOf}
 use Rattle.memory.specs.declared.Fetched.{Fetched}
 use Rattle.memory.specs.declared.Fetched.the-variants.{Word, Outside}
 use Rattle.memory.specs.declared.Immediate.the-variants as I
-use Rattle.memory.specs.declared.Place.{Place}
 use Rattle.memory.specs.declared.Place.the-variants.{Ram}
 
 module _ (a at : ℕ) (e : (at + 0xF03000) % 2 ^ 32 ≡ a) (fits : at < 2 ^ 32) where

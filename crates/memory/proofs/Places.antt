@@ -8,7 +8,6 @@ use borrow.Author.Tests.{eqb-true, ltb-true, ltb-false}
 use lib.Dec.{eqb, ltb}
 use Rattle.memory.specs.Processor.{Processor, Sound, gpu}
 use Rattle.memory.specs.Memory.{placeOf, registerOf}
-use Rattle.memory.specs.declared.Place.{Place}
 use Rattle.memory.specs.declared.Place.the-variants.{Ram, Flags, Control, Divide, Misaligned, Unmapped}
 
 -- a register is no place in RAM

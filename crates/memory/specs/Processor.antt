@@ -1,5 +1,5 @@
 -- What differs between processors: the constants that every later definition takes as a record.
-use Prim.Native.Nat.{ℕ, _+_, _%_, _^_, _<_, _≤_}
+use Prim.Native.Nat.{ℕ, _+_, _%_, _^_, _≤_}
 use mathlib.Core.Path.{_≡_}
 
 pub record Processor : Type 0 where

@@ -1,7 +1,7 @@
 -- The rules at an offset of the code, told by what stands there.
 -- Assumes nothing.
-use Prim.Native.Nat.{ℕ, _+_, _-_, _<_, _≤_}
-use mathlib.Core.Path.{_≡_, sym, _∙_, ap}
+use Prim.Native.Nat.{ℕ, _+_, _-_}
+use mathlib.Core.Path.{_≡_, sym, _∙_}
 use mathlib.Core.Bool.{not, cond, _&&_, _||_}
 use mathlib.Core.List.{List}
 use native.Mathlib.Omega.{arith}
@@ -12,7 +12,6 @@ use Rattle.memory.specs.Processor.{gpu}
 use Rattle.rules.specs.declared.Item.{Item}
 use Rattle.rules.specs.declared.Range.{Range}
 use Rattle.rules.specs.declared.Shape.{Shape}
-use Rattle.rules.specs.declared.Shape.the-variants.{Other, Movei, MovePc, Jr, Jump, Load, Store}
 use Rattle.rules.specs.Reading.{itemOf, itemAt, shapeOf, bytesOf}
 use Rattle.rules.specs.Known.{unknown, transferOf}
 use Rattle.rules.specs.Check.{isBuilt, jumps, breaksSlot, always, isTarget, learn, ok1, ok2, ok3, ok4, ok5, jrOk, jumpOk}

@@ -1,8 +1,6 @@
 // Rules 1 to 5 at one instruction: the item t at offset i, after the item p.
 ghost use mathlib.Core.Path.{_≡_};
-ghost use mathlib.Core.Bool.{Bool};
-ghost use Prim.Native.Nat.{_+_, _≤_, _<_};
-ghost use lib.ListN.{length};
+ghost use Prim.Native.Nat.{_+_, _<_};
 ghost use Rattle.memory.specs.Processor.{gpu};
 ghost use Rattle.rules.specs.Check.{jumps, breaksSlot, always, holds, isStart, isTarget, ok1, ok2, ok3, ok4, ok5};
 ghost use Rattle.rules.specs.Check as check;

@@ -1,6 +1,6 @@
 -- An instruction by the ranges that it asks for and the one that it changes: the definitions of Known.antt, told of the two
 -- ranges instead of all 32.
-use Prim.Native.Nat.{ℕ, _+_}
+use Prim.Native.Nat.{ℕ}
 use mathlib.Core.Bool.{Bool, true, false}
 use Rattle.class.specs.declared.Address.{Address}
 use Rattle.class.specs.declared.Address.the-variants.{At, Offset, Indexed}

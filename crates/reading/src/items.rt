@@ -1,7 +1,7 @@
 // What stands at an offset of the code. A byte behind the end reads as 0, so that every offset has an item.
 ghost use mathlib.Core.Path.{_≡_};
 ghost use Prim.Native.Nat.{_≤_, _<_};
-ghost use lib.ListN.{length, getD};
+ghost use lib.ListN.{getD};
 ghost use Rattle.memory.specs.Memory.{wordAt};
 ghost use Rattle.rules.specs.Reading.{itemOf, shapeIn, shapeOf, bytesOf};
 use class::Class;

@@ -1,10 +1,8 @@
 // Marks of addresses: which are instruction starts, and which are targets. A mark for each offset of the code, and a few
 // behind it, where the last instruction may end.
 ghost use mathlib.Core.Path.{_≡_};
-ghost use mathlib.Core.Bool.{Bool};
 ghost use Prim.Native.Nat.{_+_, _≤_, _<_};
 ghost use lib.ListN.{length};
-ghost use Rattle.rules.specs.Check.{leads};
 ghost use Rattle.reading.specs.Marks.{markAt, mark, MovedInto, Targets, MarksStarts, MarksTargets};
 use crate::items::item_at;
 use crate::items::shape_of;

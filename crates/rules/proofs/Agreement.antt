@@ -1,15 +1,13 @@
 -- An instruction's class and its effect agree: what the rules say that it writes, reads or reaches is what a step does.
 -- Assumes nothing.
-use Prim.Native.Nat.{ℕ, _+_, _*_, _-_, _/_, _%_, _^_, _≤_, _<_}
-use mathlib.Core.Path.{_≡_, refl, sym, subst, ap, _∙_}
+use Prim.Native.Nat.{ℕ, _+_, _*_, _-_, _%_, _^_, _≤_}
+use mathlib.Core.Path.{_≡_, refl, subst, ap, _∙_}
 use mathlib.Core.Bool.{Bool, true, false, cond}
-use mathlib.Core.List.{List, [], _∷_}
+use mathlib.Core.List.{List}
 use native.Mathlib.Omega.{arith}
 use lib.Bits.{bitAnd}
 use lib.Dec.{eqb}
 use lib.ListN.{getD}
-use Rattle.isa.specs.declared.Instr.{Instr}
-use Rattle.isa.specs.declared.Decoded.{Decoded}
 use Rattle.isa.specs.declared.Decoded.the-variants as D
 use Rattle.isa.specs.Fields.{quickOf, signedFieldOf}
 use Rattle.isa.specs.Table.{instructions}
@@ -27,10 +25,8 @@ use Rattle.effect.specs.declared.Operands.{Operands}
 use Rattle.effect.specs.declared.Effect.{Effect}
 use Rattle.effect.specs.declared.Effect.the-variants as E
 use Rattle.effect.proofs.EffectWidths.{Each, _⊗_, found}
-use Rattle.rules.specs.declared.Item.{Item}
-use Rattle.rules.specs.declared.Item.the-variants.{Unbuilt, Built}
+use Rattle.rules.specs.declared.Item.the-variants.{Built}
 use Rattle.rules.specs.Reading.{itemIn}
-use Rattle.rules.proofs.Booleans.{no-way}
 
 -- no register of the active bank is written, and neither RAM nor the counter is touched
 abbrev pub Silent : Effect → Type 0

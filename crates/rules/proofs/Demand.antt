@@ -5,33 +5,29 @@ use mathlib.Core.Path.{_≡_, refl, sym, subst, _∙_, ap, ap₂}
 use mathlib.Core.Bool.{Bool, true, false, cond}
 use mathlib.Core.List.{List}
 use native.Mathlib.Omega.{arith}
-use lib.Dec.{eqb, ltb}
-use lib.ListN.{length, getD, take, length-take}
+use lib.Dec.{eqb}
+use lib.ListN.{length, take, length-take}
 use borrow.Author.Tests.{eq-eqb, le-ltb}
 use Rattle.memory.specs.Processor.{Processor, Sound}
-use Rattle.state.specs.Answers.{numberOf, completedOf}
-use Rattle.state.specs.declared.Core.{Core}
+use Rattle.state.specs.Answers.{numberOf}
 use Rattle.state.specs.declared.Pending.{Pending}
 use Rattle.state.specs.declared.Pending.the-variants as Q
 use Rattle.state.specs.declared.Activity.{Activity}
 use Rattle.state.specs.declared.Activity.the-variants as A
 use Rattle.state.specs.declared.answers.Answer.the-variants.{Running, Stopped}
-use Rattle.effect.proofs.Widths.{FlagsFit}
-use Rattle.cpu.specs.Step.{View, viewFrom, Outcome, advanceOf}
+use Rattle.cpu.specs.Step.{View, viewFrom, advanceOf}
 use Rattle.cpu.proofs.Lengths.{Lengths}
 use Rattle.cpu.proofs.Lengths as lengths
 use Rattle.cpu.proofs.Widths.{Below, PendingFits, CoreFits, Widths}
 use Rattle.cpu.proofs.Widths as widths
 use Rattle.machine.specs.declared.State.{State}
-use Rattle.machine.specs.Run.{budgetLimit, restOf, Runs, runsOf, cut, viewOf, stateOf, resultOf, runOf, stepOf}
+use Rattle.machine.specs.Run.{budgetLimit, restOf, Runs, runsOf, viewOf, stateOf, resultOf, runOf, stepOf}
 use Rattle.machine.proofs.Runs.{stopped}
 use Rattle.rules.specs.declared.Item.the-variants.{Unbuilt}
-use Rattle.rules.specs.Reading.{endOf, first}
+use Rattle.rules.specs.Reading.{first}
 use Rattle.rules.specs.Known.{unknown}
 use Rattle.rules.specs.Rules.{Rules}
-use Rattle.rules.specs.Check.{checkOf}
-use Rattle.rules.specs.declared.Verdict.the-variants.{Admitted}
-use Rattle.rules.specs.Safety.{Apart, IsRam, IsBank, IsTargetWord, IsState, Begins, Left, afterSteps, Kept, Safe, IsProgram, Demand3}
+use Rattle.rules.specs.Safety.{Apart, IsRam, IsTargetWord, IsState, Begins, afterSteps, Kept, Safe, Demand3}
 use Rattle.rules.proofs.Booleans.{no-way}
 use Rattle.rules.proofs.Ranges.{wide}
 use Rattle.rules.proofs.Invariant.{by-fall, Inv}

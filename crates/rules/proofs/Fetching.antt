@@ -1,10 +1,10 @@
 -- Fetching sees the code: an instruction that ends in the code is fetched from RAM as the code has it.
 -- Assumes nothing.
-use Prim.Native.Nat.{ℕ, _+_, _*_, _-_, _%_, _^_, _≤_, _<_}
-use mathlib.Core.Path.{_≡_, refl, sym, subst, _∙_, ap, ap₂}
+use Prim.Native.Nat.{ℕ, _+_, _*_, _-_, _%_, _^_, _≤_}
+use mathlib.Core.Path.{_≡_, refl, _∙_, ap₂}
 use mathlib.Core.List.{List}
 use native.Mathlib.Omega.{arith}
-use lib.ListN.{length, getD, take}
+use lib.ListN.{length, take}
 use lib.Seq.{getD-take, take-set-le}
 use borrow.Author.Tests.{ne-eqb, lt-ltb, le-ltb}
 use Rattle.memory.specs.Processor.{Processor, Sound}
@@ -13,7 +13,7 @@ use Rattle.memory.specs.declared.Fetched.the-variants as F
 use Rattle.memory.specs.declared.Immediate.the-variants as I
 use Rattle.rules.specs.declared.Shape.{Shape}
 use Rattle.rules.specs.declared.Shape.the-variants.{Other, Movei, MovePc, Jr, Jump, Load, Store}
-use Rattle.rules.specs.Reading.{bytesOf, endOf, shapeAt, after, Reads, first, next}
+use Rattle.rules.specs.Reading.{bytesOf, shapeAt, Reads, first, next}
 
 bytes-even : (s : Shape) → bytesOf s % 2 ≡ 0
 bytes-even Other = refl

@@ -8,8 +8,6 @@ use native.Mathlib.Omega.{arith}
 use lib.Dec.{eqb}
 use lib.ListN.{length, getD, take}
 use borrow.Author.Tests.{eqb-true, eqb-false}
-use Rattle.alu.specs.Jump.{jrTargetOf}
-use Rattle.isa.specs.Fields.{signedFieldOf}
 use Rattle.class.specs.declared.Class.{Class}
 use Rattle.memory.specs.Processor.{Processor, Sound}
 use Rattle.state.specs.State.{counterOf, movedOf}
@@ -19,12 +17,12 @@ use Rattle.state.specs.declared.Pending.the-variants.{None, At}
 use Rattle.cpu.specs.Step.{View, viewFrom}
 use Rattle.rules.specs.declared.Range.{Range}
 use Rattle.rules.specs.declared.Item.{Item}
-use Rattle.rules.specs.declared.Item.the-variants.{Unbuilt, Built}
+use Rattle.rules.specs.declared.Item.the-variants.{Built}
 use Rattle.rules.specs.declared.Shape.{Shape}
 use Rattle.rules.specs.declared.Shape.the-variants.{Other, Movei, MovePc, Jr, Jump, Load, Store}
-use Rattle.rules.specs.Reading.{shapeIn, shapeOf, bytesOf, endOf, itemAt, shapeAt, after, Reads, first, next}
+use Rattle.rules.specs.Reading.{shapeIn, shapeOf, bytesOf, endOf, itemAt, shapeAt, after, first, next}
 use Rattle.rules.specs.Known.{unknown, transfer, transferOf}
-use Rattle.rules.specs.Check.{breaksSlot, always, isTarget, learn, before}
+use Rattle.rules.specs.Check.{breaksSlot, always, isTarget, learn}
 use Rattle.rules.specs.Rules.{IsInstruction, IsStart, Leads, by-jr, by-jump, IsTarget, Knows, Rules}
 use Rattle.rules.proofs.Booleans.{by, no-way}
 use Rattle.rules.proofs.Scan.{reads-too}

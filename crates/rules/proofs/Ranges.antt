@@ -1,15 +1,15 @@
 -- What is known of the registers is sound: each operation on ranges covers the operation on numbers.
 -- Assumes nothing.
-use Prim.Native.Nat.{ℕ, zero, suc, _+_, _*_, _-_, _%_, _≤_, _<_, _^_, min}
-use mathlib.Core.Path.{_≡_, refl, sym, subst, _∙_, ap}
-use mathlib.Core.Bool.{Bool, true, false, _&&_, _||_, cond}
+use Prim.Native.Nat.{ℕ, zero, suc, _+_, _*_, _-_, _%_, _≤_, _<_, _^_}
+use mathlib.Core.Path.{_≡_, refl, _∙_, ap}
+use mathlib.Core.Bool.{Bool, true, false, _&&_, cond}
 use mathlib.Core.List.{List, [], _∷_}
 use native.Mathlib.Nat.{suc-inj}
 use native.Mathlib.Omega.{arith}
 use lib.Dec.{ltb, leb, eqb}
 use lib.ListN.{length, getD, set, replicate, length-set}
 use lib.Bits.{bitAnd, and-le-l, and-le-r, and-mod, and-zero-l, and-zero-r}
-use borrow.Author.Tests.{ltb-true, ltb-false, leb-true, eqb-true}
+use borrow.Author.Tests.{ltb-false, leb-true, eqb-true}
 use Rattle.shifter.specs.Shift.{leftOf}
 use Rattle.rules.specs.declared.Range.{Range}
 use Rattle.rules.specs.Known.{most, full, unknown, rangeAt, exactly, andRange, sumRange, lessRange, shiftedRange}

@@ -5,15 +5,14 @@ use mathlib.Core.Path.{_≡_, refl, sym, subst, _∙_, ap, ap₂}
 use mathlib.Core.Bool.{Bool, true, false, cond}
 use mathlib.Core.List.{List}
 use native.Mathlib.Omega.{arith}
-use lib.Bits.{bitAnd}
 use lib.Dec.{eqb}
 use lib.ListN.{length, getD, set, take}
 use lib.Seq.{getD-set-same}
-use borrow.Author.Tests.{eq-eqb, eqb-true, eqb-false}
+use borrow.Author.Tests.{eq-eqb, eqb-true}
 use Rattle.isa.specs.Fields.{signedFieldOf}
 use Rattle.isa.specs.Words.{decodeOf}
 use Rattle.values.specs.declared.Flags.{Flags}
-use Rattle.alu.specs.Jump.{chosenOf, metOf, takenOf, jrTargetOf}
+use Rattle.alu.specs.Jump.{chosenOf, takenOf, jrTargetOf}
 use Rattle.class.specs.declared.Address.{Address}
 use Rattle.class.specs.declared.Address.the-variants.{At, Offset, Indexed}
 use Rattle.class.specs.declared.Class.{Class}
@@ -32,7 +31,7 @@ use Rattle.state.specs.declared.Pending.{Pending}
 use Rattle.state.specs.declared.Pending.the-variants as Q
 use Rattle.state.specs.declared.Activity.the-variants as A
 use Rattle.state.specs.declared.answers.Answer.the-variants.{Running}
-use Rattle.cpu.specs.Step.{View, viewFrom, Outcome, unwritten, doneOf, jumpOf, stayOf, inActive, moveImmediateOf, moveCounterOf, moveLoadedOf, loadOf, storeOf, applyOf, operandsOf, executeOf, advanceOf}
+use Rattle.cpu.specs.Step.{View, viewFrom, Outcome, unwritten, doneOf, jumpOf, stayOf, inActive, moveCounterOf, moveLoadedOf, loadOf, storeOf, applyOf, operandsOf, executeOf, advanceOf}
 use Rattle.cpu.proofs.Lengths.{Lengths}
 use Rattle.rules.specs.declared.Range.{Range}
 use Rattle.rules.specs.declared.Item.{Item}
@@ -40,11 +39,11 @@ use Rattle.rules.specs.declared.Item.the-variants.{Unbuilt, Built}
 use Rattle.rules.specs.declared.Shape.{Shape}
 use Rattle.rules.specs.declared.Shape.the-variants.{Other, Movei, MovePc, Jr, Jump, Load, Store}
 use Rattle.rules.specs.Reading.{itemIn, itemOf, shapeIn, shapeOf, bytesOf, endOf, itemAt, shapeAt, after}
-use Rattle.rules.specs.Known.{full, unknown, exactly, rangeAt, andRange, sumRange, lessRange, shiftedRange, addressRange, isExactly, transfer, transferOf}
+use Rattle.rules.specs.Known.{full, unknown, exactly, addressRange, isExactly, transfer, transferOf}
 use Rattle.rules.specs.Check.{jumps, breaksSlot, always}
-use Rattle.rules.specs.Rules.{IsTarget, by-jr, by-jump, Rules, Reaches}
+use Rattle.rules.specs.Rules.{IsTarget, by-jr, by-jump, Rules}
 use Rattle.rules.specs.Safety.{Apart}
-use Rattle.rules.proofs.Booleans.{by, no-way}
+use Rattle.rules.proofs.Booleans.{no-way}
 use Rattle.rules.proofs.Ranges.{In, Fits, fits-at, fits-set, fits-write, in-exactly, in-sum, in-and, in-less, in-shifted}
 use Rattle.rules.proofs.Agreement.{Silent, Writes, Gives, reached, Agrees, agrees}
 use Rattle.rules.proofs.Invariant.{Left, Came, by-target, by-fall, Inv, fall, not-last, arrive}

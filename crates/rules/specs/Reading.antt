@@ -7,7 +7,6 @@ use lib.ListN.{length}
 use Rattle.isa.specs.declared.Decoded.{Decoded}
 use Rattle.isa.specs.declared.Decoded.the-variants as D
 use Rattle.isa.specs.Words.{decodeOf}
-use Rattle.class.specs.declared.Address.{Address}
 use Rattle.class.specs.declared.Class.{Class}
 use Rattle.class.specs.declared.Class.the-variants as C
 use Rattle.class.specs.Classes.{classOf}

@@ -1,9 +1,8 @@
 -- The six loading rules as statements about the code, in paper 01's words.
-use Prim.Native.Nat.{ℕ, _+_, _%_, _<_, _≤_}
+use Prim.Native.Nat.{ℕ, _+_, _<_, _≤_}
 use mathlib.Core.Path.{_≡_}
 use mathlib.Core.Bool.{true, false}
 use mathlib.Core.List.{List}
-use lib.ListN.{length}
 use Rattle.class.specs.declared.Address.{Address}
 use Rattle.isa.specs.Fields.{signedFieldOf}
 use Rattle.alu.specs.Jump.{jrTargetOf}
@@ -11,7 +10,6 @@ use Rattle.memory.specs.Processor.{Processor}
 use Rattle.rules.specs.declared.Range.{Range}
 use Rattle.rules.specs.declared.Item.{Item}
 use Rattle.rules.specs.declared.Item.the-variants.{Unbuilt}
-use Rattle.rules.specs.declared.Shape.{Shape}
 use Rattle.rules.specs.declared.Shape.the-variants.{Movei, Jr, Jump, Load, Store}
 use Rattle.rules.specs.Reading.{shapeOf, endOf, itemAt, shapeAt, after, Reads}
 use Rattle.rules.specs.Known.{unknown, addressRange}

@@ -1,6 +1,6 @@
 -- Shifts that lose bits and rotations, over the width.
 -- Assumes nothing.
-use mathlib.Core.Path.{_≡_, refl, sym, _∙_, subst}
+use mathlib.Core.Path.{_≡_, sym, _∙_, subst}
 use Prim.Native.Nat.{ℕ, _+_, _*_, _/_, _%_, _^_, _<_}
 use native.Mathlib.Nat.{add-zero, mul-mod-left, add-comm}
 use lib.Bits.{bitOr, or-shifted-r}

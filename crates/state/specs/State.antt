@@ -9,7 +9,7 @@ use Rattle.state.specs.declared.live.Live.{Live}
 use Rattle.state.specs.declared.Pending.{Pending}
 use Rattle.state.specs.declared.Pending.the-variants.{None, At}
 use Rattle.state.specs.declared.Activity.{Activity}
-use Rattle.state.specs.declared.Activity.the-variants.{Running, Stopped}
+use Rattle.state.specs.declared.Activity.the-variants.{Stopped}
 
 -- How the loop of a run tells a pending jump: a flag, and the target.
 abbrev pub waitingOf : Pending → ℕ
