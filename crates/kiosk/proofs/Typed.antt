@@ -14,8 +14,8 @@ use mir.Val.{Fits}
 use Rattle.memory.specs.Memory.{longAt}
 use Rattle.state.specs.declared.Pending.the-variants.{None, At}
 use Rattle.rules.specs.Safety.{IsRam, IsBank, IsTargetWord, IsState}
-use Rattle.kiosk.specs.Block.{longs, coreAt, stateAt}
-use Rattle.kiosk.proofs.Longs.{longs-length, longs-at}
+use Rattle.block.specs.Block.{longs, coreAt, stateAt}
+use Rattle.block.proofs.Longs.{longs-length, longs-at}
 
 beyond : (l : List ℕ) (i : ℕ) → length l ≤ i → getD l i 0 ≡ 0
 beyond [] i h = refl

@@ -10,7 +10,7 @@ use Rattle.state.specs.Answers.{numberOf}
 use Rattle.rules.specs.declared.Verdict.{Verdict}
 use Rattle.rules.specs.Verdicts as verdicts
 use Rattle.machine.specs.Run.{Result, runOf, budgetLimit}
-use Rattle.kiosk.specs.Block.{blockLength, validOf, stateAt, putState}
+use Rattle.block.specs.Block.{blockLength, validOf, stateAt, putState}
 
 -- The reply, and RAM and the block after the call.
 pub record Call : Type 0 where

@@ -4,13 +4,14 @@ ghost use mathlib.Core.Path.{_≡_};
 ghost use Rattle.memory.specs.Processor.{gpu};
 ghost use Rattle.rules.specs.Check.{checkOf};
 ghost use Rattle.rules.specs.Safety.{IsRam, IsState};
-ghost use Rattle.kiosk.specs.Block.{stateAt};
+ghost use Rattle.block.specs.Block.{stateAt};
 ghost use Rattle.kiosk.specs.Call.{called, callOf, checkReply};
+use block::is_valid;
+use block::read;
+use block::write;
 use loading::check;
 use machine::run;
 use memory::long_at;
-
-mod block;
 
 // The second promise: what demand 3 assumes of RAM and of a state is so in every call.
 #[no_mangle]
@@ -24,17 +25,17 @@ pub extern "C" fn gpu_run(ram: &mut [u8], block: &mut [u8], budget: u64) -> u64
     if block.len() != 276 {
         return 35;
     }
-    if !block::is_valid(long_at(block, 272), long_at(block, 260)) {
+    if !is_valid(long_at(block, 272), long_at(block, 260)) {
         return 34;
     }
     if 1000000 < budget {
         return 32;
     }
-    let s = block::read(block);
+    let s = read(block);
     let r = run(ram, s, budget);
     let after = r.state;
     let answer = r.answer;
-    block::write(block, after);
+    write(block, after);
     answer.number() as u64 + 256 * r.steps as u64
 }
 

@@ -11,7 +11,7 @@ use Rattle.state.specs.declared.Pending.the-variants.{None, At}
 use Rattle.state.specs.declared.Activity.{Activity}
 use Rattle.state.specs.declared.Activity.the-variants.{Stopped}
 
--- How the loop of a run tells a pending jump: a flag, and the target.
+-- How the loop of a run and the state block tell a pending jump: a bit, and the target.
 abbrev pub waitingOf : Pending → ℕ
 waitingOf None = 0
 waitingOf (At t) = 1

@@ -1,5 +1,6 @@
 // The state without its registers: as callers see it, and as the loop of a run holds it.
 ghost use mathlib.Core.Path.{_≡_};
+ghost use Prim.Native.Nat.{_<_};
 ghost use Rattle.state.specs.State.{flagWordOf, waitingOf, targetOf, coreOf};
 use live::Live;
 use values::Flags;
@@ -39,8 +40,9 @@ pub fn flag_word(f: Flags, bank: u32) -> u32
     f.z % 2 + 2 * (f.c % 2) + 4 * (f.n % 2) + 16384 * (bank % 2)
 }
 
-fn waiting(p: Pending) -> u32
-    ensures { λ r. ⌜ r ≡ waitingOf p ⌝ }
+// Whether a jump is pending, as a bit.
+pub fn waiting(p: Pending) -> u32
+    ensures { λ r. ⌜ (r ≡ waitingOf p) × (r < 2) ⌝ }
 {
     match p {
         Pending::None => 0,
@@ -48,7 +50,8 @@ fn waiting(p: Pending) -> u32
     }
 }
 
-fn target(p: Pending) -> u32
+// The target of the pending jump; 0 if there is none.
+pub fn target(p: Pending) -> u32
     ensures { λ r. ⌜ r ≡ targetOf p ⌝ }
 {
     match p {

@@ -13,7 +13,7 @@ again None = refl
 again (At t) = refl
 
 returns : tie.Need-returns
-returns c = rw (c .before .waiting .ensures, c .target .ensures, again)
+returns c = rw (c .before .waiting .ensures .0, c .target .ensures, again)
 
 pub live-spec : {M : Type 1} → statement M
 live-spec =

@@ -1,9 +1,9 @@
 -- `read_core` meets its contract: each long where the definition has it.
 -- Assumes nothing.
 use borrow.Author.Needs.{needs}
-use Rattle.kiosk.specs.Block.{coreAt}
-use Rattle.kiosk.proofs.block.read_core.Statement.{statement}
-use Rattle.kiosk.proofs.block.read_core.Tie as tie
+use Rattle.block.specs.Block.{coreAt}
+use Rattle.block.proofs.read_core.Statement.{statement}
+use Rattle.block.proofs.read_core.Tie as tie
 
 returns : tie.Need-returns
 unfolding coreAt

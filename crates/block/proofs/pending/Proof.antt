@@ -1,8 +1,8 @@
 -- `pending` meets its contract.
 -- Assumes nothing.
 use borrow.Author.Tests.{eq-eqb, ne-eqb}
-use Rattle.kiosk.proofs.block.pending.Statement.{statement}
-use Rattle.kiosk.proofs.block.pending.Tie as tie
+use Rattle.block.proofs.pending.Statement.{statement}
+use Rattle.block.proofs.pending.Tie as tie
 
 returns : tie.Need-returns
 returns c = rw (eq-eqb _ _ (c .if1 .taken))

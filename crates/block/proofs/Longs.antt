@@ -12,7 +12,7 @@ use lib.Dec.{ltb}
 use lib.ListN.{length, getD, length-append, List·getD-append}
 use lib.Seq.{set-getD, getD-append-seam}
 use Rattle.memory.specs.Memory.{longAt, putLong}
-use Rattle.kiosk.specs.Block.{longs, putLongs}
+use Rattle.block.specs.Block.{longs, putLongs}
 
 -- every element is a byte
 abbrev pub Bytes : List ℕ → Type 0

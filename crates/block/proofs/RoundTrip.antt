@@ -10,8 +10,9 @@ use lib.Dec.{eqb}
 use Rattle.memory.specs.Memory.{longAt}
 use Rattle.state.specs.declared.Pending.the-variants.{None, At}
 use Rattle.state.specs.declared.Activity.the-variants.{Running, Stopped}
-use Rattle.kiosk.specs.Block.{validOf, pendingIn, activityIn, coreFrom, coreAt, stateAt, targetOf, pendingBit, activityBit, statusOf, putCore, putState}
-use Rattle.kiosk.proofs.Longs.{Bytes, digits, put-back, bank-back}
+use Rattle.state.specs.State.{waitingOf, targetOf}
+use Rattle.block.specs.Block.{validOf, pendingIn, activityIn, coreFrom, coreAt, stateAt, activityBit, statusOf, putCore, putState}
+use Rattle.block.proofs.Longs.{Bytes, digits, put-back, bank-back}
 
 -- what a valid status and target are
 record Valid (status target : ℕ) : Type 0 where
@@ -45,10 +46,10 @@ target-back status target v = go (eqb (status / 2 ^ 17 % 2) 1) (v .rule)
 zero-bit : (n : ℕ) → (n % 2 ≡ 1 → ⊥) → 0 ≡ n % 2
 zero-bit n h = omega arith
 
-pending-back : (status target : ℕ) → pendingBit (pendingIn status target) ≡ status / 2 ^ 17 % 2
+pending-back : (status target : ℕ) → waitingOf (pendingIn status target) ≡ status / 2 ^ 17 % 2
 pending-back status target = go (eqb (status / 2 ^ 17 % 2) 1) refl
   where
-    go : (t : Bool) → eqb (status / 2 ^ 17 % 2) 1 ≡ t → pendingBit (cond t (At target) None) ≡ status / 2 ^ 17 % 2
+    go : (t : Bool) → eqb (status / 2 ^ 17 % 2) 1 ≡ t → waitingOf (cond t (At target) None) ≡ status / 2 ^ 17 % 2
     go true e = sym (eqb-true _ _ e)
     go false e = zero-bit (status / 2 ^ 17) (eqb-false _ _ e)
 

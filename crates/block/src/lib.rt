@@ -2,13 +2,15 @@
 ghost use mathlib.Core.Path.{_≡_};
 ghost use Prim.Native.Nat.{_+_, _≤_, _<_};
 ghost use lib.ListN.{length};
-ghost use Rattle.kiosk.specs.Block.{longs, putLongs, validOf, pendingIn, activityIn, coreAt, stateAt, targetOf, pendingBit, activityBit, statusOf, putCore, putState};
+ghost use Rattle.block.specs.Block.{longs, putLongs, validOf, pendingIn, activityIn, coreAt, stateAt, activityBit, statusOf, putCore, putState};
 use machine::State;
 use memory::long_at;
 use memory::put_long;
 use state::Activity;
 use state::Core;
 use state::Pending;
+use state::target;
+use state::waiting;
 use values::Flags;
 
 // Whether a status and a pending target obey the bit and target rules.
@@ -109,24 +111,6 @@ fn write_bank(block: &mut [u8], at: usize, b: &[u32; 32])
     }
 }
 
-fn target(p: Pending) -> u32
-    ensures { λ r. ⌜ r ≡ targetOf p ⌝ }
-{
-    match p {
-        Pending::None => 0,
-        Pending::At(t) => t,
-    }
-}
-
-fn pending_bit(p: Pending) -> u32
-    ensures { λ r. ⌜ (r ≡ pendingBit p) × (r < 2) ⌝ }
-{
-    match p {
-        Pending::None => 0,
-        Pending::At(_) => 1,
-    }
-}
-
 fn activity_bit(a: Activity) -> u32
     ensures { λ r. ⌜ (r ≡ activityBit a) × (r < 2) ⌝ }
 {
@@ -147,7 +131,7 @@ fn status(k: Core) -> u32
         + 4 * (f.n % 2)
         + 16384 * (k.bank % 2)
         + 65536 * activity_bit(a)
-        + 131072 * pending_bit(p)
+        + 131072 * waiting(p)
         + 262144 * (k.mode % 2)
 }
 

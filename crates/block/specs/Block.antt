@@ -5,7 +5,7 @@ use mathlib.Core.List.{List, [], _∷_, _++_}
 use lib.Dec.{eqb}
 use lib.ListN.{getD}
 use Rattle.memory.specs.Memory.{longAt, putLong}
-use Rattle.state.specs.State.{flagsIn, bankIn, flagRegisterOf}
+use Rattle.state.specs.State.{waitingOf, targetOf, flagsIn, bankIn, flagRegisterOf}
 use Rattle.state.specs.declared.Core.{Core}
 use Rattle.state.specs.declared.Pending.{Pending}
 use Rattle.state.specs.declared.Pending.the-variants.{None, At}
@@ -53,21 +53,13 @@ abbrev pub stateAt : List ℕ → State
 stateAt block = record { bank0 = longs block 0 32; bank1 = longs block 128 32; core = coreAt block }
 
 -- And back.
-abbrev pub targetOf : Pending → ℕ
-targetOf None = 0
-targetOf (At t) = t
-
-abbrev pub pendingBit : Pending → ℕ
-pendingBit None = 0
-pendingBit (At t) = 1
-
 abbrev pub activityBit : Activity → ℕ
 activityBit Running = 1
 activityBit Stopped = 0
 
 abbrev pub statusOf : Core → ℕ
 statusOf k =
-    flagRegisterOf k + 2 ^ 16 * activityBit (k .activity) + 2 ^ 17 * pendingBit (k .pending) + 2 ^ 18 * (k .mode % 2)
+    flagRegisterOf k + 2 ^ 16 * activityBit (k .activity) + 2 ^ 17 * waitingOf (k .pending) + 2 ^ 18 * (k .mode % 2)
 
 unfoldable pub putCore : List ℕ → Core → List ℕ
 putCore block k =

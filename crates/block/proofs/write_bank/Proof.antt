@@ -6,9 +6,9 @@ use native.Mathlib.Numerals.{add-one}
 use mathlib.Core.Path.{_≡_, refl, _∙_}
 use Prim.Native.Nat.{_≤_, _-_}
 use lib.ListN.{length}
-use Rattle.kiosk.specs.Block.{putLongs}
-use Rattle.kiosk.proofs.block.write_bank.Statement.{statement}
-use Rattle.kiosk.proofs.block.write_bank.Tie as tie
+use Rattle.block.specs.Block.{putLongs}
+use Rattle.block.proofs.write_bank.Statement.{statement}
+use Rattle.block.proofs.write_bank.Tie as tie
 
 abbrev Inv-loop : tie.InvT-loop
 Inv-loop block₀ at b i₀ block i =

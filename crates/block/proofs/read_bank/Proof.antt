@@ -7,9 +7,9 @@ use mathlib.Core.Path.{_≡_, refl, sym, _∙_}
 use Prim.Native.Nat.{_≤_, _<_, _-_}
 use lib.ListN.{length, take, length-set}
 use lib.Seq.{take-suc-set, take-all}
-use Rattle.kiosk.specs.Block.{longs}
-use Rattle.kiosk.proofs.block.read_bank.Statement.{statement}
-use Rattle.kiosk.proofs.block.read_bank.Tie as tie
+use Rattle.block.specs.Block.{longs}
+use Rattle.block.proofs.read_bank.Statement.{statement}
+use Rattle.block.proofs.read_bank.Tie as tie
 
 abbrev Inv-loop : tie.InvT-loop
 Inv-loop block at b₀ i₀ b i = (i ≤ 32) × (length b ≡ 32) × (take i b ≡ longs block at i)

@@ -1,8 +1,8 @@
 -- `activity` meets its contract.
 -- Assumes nothing.
 use borrow.Author.Tests.{eq-eqb, ne-eqb}
-use Rattle.kiosk.proofs.block.activity.Statement.{statement}
-use Rattle.kiosk.proofs.block.activity.Tie as tie
+use Rattle.block.proofs.activity.Statement.{statement}
+use Rattle.block.proofs.activity.Tie as tie
 
 returns : tie.Need-returns
 returns c = rw (eq-eqb _ _ (c .if1 .taken))

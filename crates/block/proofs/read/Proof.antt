@@ -1,8 +1,8 @@
 -- `read` meets its contract.
 -- Assumes nothing.
 use borrow.Author.Needs.{needs}
-use Rattle.kiosk.proofs.block.read.Statement.{statement}
-use Rattle.kiosk.proofs.block.read.Tie as tie
+use Rattle.block.proofs.read.Statement.{statement}
+use Rattle.block.proofs.read.Tie as tie
 
 returns : tie.Need-returns
 returns c = rw (c .read-core .ensures, c .before .read-bank2 .ensures, c .before .before .read-bank .ensures)

@@ -1,8 +1,8 @@
 -- `is_valid` meets its contract: its tests are the definition's, in their order.
 -- Assumes nothing.
 use borrow.Author.Tests.{eq-eqb, ne-eqb}
-use Rattle.kiosk.proofs.block.is_valid.Statement.{statement}
-use Rattle.kiosk.proofs.block.is_valid.Tie as tie
+use Rattle.block.proofs.is_valid.Statement.{statement}
+use Rattle.block.proofs.is_valid.Tie as tie
 
 returns : tie.Need-returns
 returns c = rw (ne-eqb _ _ (c .if1 .taken))

@@ -15,9 +15,10 @@ use Rattle.state.specs.declared.Pending.the-variants.{None, At}
 use Rattle.state.specs.declared.Activity.{Activity}
 use Rattle.state.specs.declared.Activity.the-variants.{Running, Stopped}
 use Rattle.machine.specs.declared.State.{State}
-use Rattle.kiosk.specs.Block.{longs, putLongs, coreFrom, coreAt, stateAt, targetOf, pendingBit, activityBit, statusOf, putCore, putState}
-use Rattle.kiosk.proofs.Longs.{longs-length, longs-at}
-use Rattle.kiosk.proofs.Stored.{put-length, same, below, puts-length, puts-below, puts-at}
+use Rattle.state.specs.State.{waitingOf, targetOf}
+use Rattle.block.specs.Block.{longs, putLongs, coreFrom, coreAt, stateAt, activityBit, statusOf, putCore, putState}
+use Rattle.block.proofs.Longs.{longs-length, longs-at}
+use Rattle.block.proofs.Stored.{put-length, same, below, puts-length, puts-below, puts-at}
 
 -- seven bits with gaps between them, each taken out again
 module _ (z c n b a p m : ℕ) (hz : z < 2) (hc : c < 2) (hn : n < 2) (hb : b < 2) (ha : a < 2) (hp : p < 2) (hm : m < 2) where
@@ -45,7 +46,7 @@ module _ (z c n b a p m : ℕ) (hz : z < 2) (hc : c < 2) (hn : n < 2) (hb : b < 
   m-in : status / 262144 % 2 ≡ m
   m-in = omega arith
 
-pending-bit : (p : Pending) → pendingBit p < 2
+pending-bit : (p : Pending) → waitingOf p < 2
 pending-bit None = omega arith
 pending-bit (At t) = omega arith
 
@@ -53,7 +54,7 @@ activity-bit : (a : Activity) → activityBit a < 2
 activity-bit Running = omega arith
 activity-bit Stopped = omega arith
 
-pending-in : (p : Pending) → cond (eqb (pendingBit p) 1) (At (targetOf p)) None ≡ p
+pending-in : (p : Pending) → cond (eqb (waitingOf p) 1) (At (targetOf p)) None ≡ p
 pending-in None = refl
 pending-in (At t) = refl
 
@@ -96,7 +97,7 @@ module _ (k : Core) (f : FormedCore k) where
       let n = k .flags .n % 2 in
       let b = k .bank % 2 in
       let a = activityBit (k .activity) in
-      let p = pendingBit (k .pending) in
+      let p = waitingOf (k .pending) in
       let m = k .mode % 2 in
       let hz = low-bit (k .flags .z) in
       let hc = low-bit (k .flags .c) in

@@ -1,9 +1,9 @@
 -- `write_core` meets its contract: one long after the other.
 -- Assumes nothing.
 use borrow.Author.Needs.{needs}
-use Rattle.kiosk.specs.Block.{putCore}
-use Rattle.kiosk.proofs.block.write_core.Statement.{statement}
-use Rattle.kiosk.proofs.block.write_core.Tie as tie
+use Rattle.block.specs.Block.{putCore}
+use Rattle.block.proofs.write_core.Statement.{statement}
+use Rattle.block.proofs.write_core.Tie as tie
 
 returns : tie.Need-returns
 unfolding putCore

@@ -10,8 +10,8 @@ use lib.Dec.{ltb}
 use lib.ListN.{length, getD, set, length-set}
 use lib.Seq.{getD-set-same, getD-set-other}
 use Rattle.memory.specs.Memory.{longAt, putLong}
-use Rattle.kiosk.specs.Block.{putLongs}
-use Rattle.kiosk.proofs.Longs.{digits}
+use Rattle.block.specs.Block.{putLongs}
+use Rattle.block.proofs.Longs.{digits}
 
 pub put-length : (l : List ℕ) (i v : ℕ) → length (putLong l i v) ≡ length l
 put-length l i v = simp length-set

@@ -1,8 +1,8 @@
 -- `write` meets its contract.
 -- Assumes nothing.
 use borrow.Author.Needs.{needs}
-use Rattle.kiosk.proofs.block.write.Statement.{statement}
-use Rattle.kiosk.proofs.block.write.Tie as tie
+use Rattle.block.proofs.write.Statement.{statement}
+use Rattle.block.proofs.write.Tie as tie
 
 returns : tie.Need-returns
 returns c = rw (c .before .before .write-core .ensures, c .before .before .before .before .before .before .write-bank2 .ensures, c .before .before .before .before .before .before .before .before .before .before .before .write-bank .ensures)

@@ -1,0 +1,4 @@
+pub mod Longs
+pub mod Restored
+pub mod RoundTrip
+pub mod Stored
