@@ -3,11 +3,11 @@
 use Prim.Native.Nat.{ℕ, zero, suc, _+_, _-_, _%_, _^_, _≤_, _<_}
 use mathlib.Core.Path.{_≡_, refl, sym, subst, _∙_, ap, ap₂}
 use mathlib.Core.Bool.{Bool, true, false, cond}
-use mathlib.Core.List.{List}
+use mathlib.Core.List.{List, [], _∷_}
 use native.Mathlib.Omega.{arith}
-use lib.Dec.{eqb}
+use lib.Dec.{eqb, ltb}
 use lib.ListN.{length, take, length-take}
-use borrow.Author.Tests.{eq-eqb, le-ltb}
+use borrow.Author.Tests.{eq-eqb, lt-ltb, le-ltb, ltb-true, ltb-false}
 use Rattle.memory.specs.Processor.{Processor, Sound}
 use Rattle.state.specs.Answers.{numberOf}
 use Rattle.state.specs.declared.Pending.{Pending}
@@ -23,12 +23,14 @@ use Rattle.cpu.proofs.Widths as widths
 use Rattle.machine.specs.declared.State.{State}
 use Rattle.machine.specs.Run.{budgetLimit, restOf, Runs, runsOf, viewOf, stateOf, resultOf, runOf, stepOf}
 use Rattle.machine.proofs.Runs.{stopped}
+use Rattle.rules.specs.declared.Verdict.the-variants.{Admitted}
+use Rattle.rules.specs.Check.{checkOf}
 use Rattle.rules.specs.declared.Item.the-variants.{Unbuilt}
 use Rattle.rules.specs.Reading.{first}
 use Rattle.rules.specs.Known.{unknown}
 use Rattle.rules.specs.Rules.{Rules}
-use Rattle.rules.specs.Safety.{Apart, IsRam, IsTargetWord, IsState, Begins, afterSteps, Kept, Safe, Demand3}
-use Rattle.rules.proofs.Booleans.{no-way}
+use Rattle.rules.specs.Safety.{Apart, IsRam, IsTargetWord, IsState, Begins, Loaded, afterSteps, afterCalls, Kept, Safe, Demand3}
+use Rattle.rules.proofs.Booleans.{no-way, by}
 use Rattle.rules.proofs.Ranges.{wide}
 use Rattle.rules.proofs.Invariant.{by-fall, Inv}
 use Rattle.rules.proofs.Step.{step}
@@ -84,6 +86,7 @@ module _ (P : Processor) (sound : Sound P) (apart : Apart P) (code : List ℕ) (
     answers : numberOf (runsOf P b n ram v .answer) ≤ 1
     keeps : (k : ℕ) → k ≤ more → Kept P code (afterSteps P k ram (stateOf v))
     ends : afterSteps P more ram (stateOf v) ≡ record { state = stateOf (runsOf P b n ram v .view); ram = runsOf P b n ram v .ram }
+    holds-then : Holds (runsOf P b n ram v .ram) (runsOf P b n ram v .view)
 
   -- no step is made
   rests : (b n : ℕ) (ram : List ℕ) (v : View) → Holds ram v → (r : Runs) → runsOf P b n ram v ≡ r → r .steps ≡ n → numberOf (r .answer) ≤ 1 → r .view ≡ v → r .ram ≡ ram → SafeRun b n ram v
@@ -95,6 +98,7 @@ module _ (P : Processor) (sound : Sound P) (apart : Apart P) (code : List ℕ) (
         answers = subst (λ x. numberOf (x .answer) ≤ 1) (sym e) small-answer;
         keeps = λ k l. none k l;
         ends = rw (e, same-view, same-ram);
+        holds-then = rw (e, same-view, same-ram) h;
       }
     where
       none : (k : ℕ) → k ≤ 0 → Kept P code (afterSteps P k ram (stateOf v))
@@ -125,6 +129,7 @@ module _ (P : Processor) (sound : Sound P) (apart : Apart P) (code : List ℕ) (
           answers = subst (λ r. numberOf (r .answer) ≤ 1) (sym goes-on) (l .answers);
           keeps = each;
           ends = shift (l .more) ∙ l .ends ∙ ap (λ r. record { state = stateOf (r .view); ram = r .ram }) (sym goes-on);
+          holds-then = subst (λ r. Holds (r .ram) (r .view)) (sym goes-on) (l .holds-then);
         }
       where
         each : (k : ℕ) → k ≤ suc (l .more) → Kept P code (afterSteps P k ram (stateOf v))
@@ -184,30 +189,56 @@ module _ (P : Processor) (sound : Sound P) (apart : Apart P) (code : List ℕ) (
           words = record { bytes = bytes .bytes; active-words = f .1; other-words = f .2; core-fits = core-words };
         }
 
-    safely : take (length code) ram ≡ code → 0 < length code → Begins P s → (budget : ℕ) → budget ≤ budgetLimit → Safe P code ram s budget
-    safely same some b budget allowed =
-        let r = safe budget 0 ram (viewOf s) (begins same some b) in
+  -- a run of a state, where the invariant holds
+  module _ (ram : List ℕ) (s : State) (h : Holds ram (viewOf s)) (budget : ℕ) where
+    result : budget ≤ budgetLimit → runOf P ram (stateOf (viewOf s)) budget ≡ resultOf (runsOf P budget 0 ram (viewOf s))
+    unfolding runOf
+    result allowed = rw (eq-eqb (length ram) (P .size) (h .sizes .ram-length), le-ltb budgetLimit budget allowed, view-state (viewOf s))
+
+    safe-run : budget ≤ budgetLimit → Safe P code ram s budget
+    safe-run allowed =
+        let r = safe budget 0 ram (viewOf s) h in
         subst (λ t. Safe P code ram t budget) (state-view s)
         (record {
-          answers = rw (result budget allowed) (r .answers);
-          keeps = λ k l. r .keeps k (omega (arith, r .counted, ap (λ x. x .ran .steps) (result budget allowed)));
+          answers = rw (result allowed) (r .answers);
+          keeps = λ k l. r .keeps k (omega (arith, r .counted, ap (λ x. x .ran .steps) (result allowed)));
           ends =
               let c : runsOf P budget 0 ram (viewOf s) .steps ≡ r .more = omega (arith, r .counted) in
-              rw (result budget allowed) (ap (λ k. afterSteps P k ram (stateOf (viewOf s))) c ∙ r .ends);
+              rw (result allowed) (ap (λ k. afterSteps P k ram (stateOf (viewOf s))) c ∙ r .ends);
         })
-      where
-        result : (budget : ℕ) → budget ≤ budgetLimit → runOf P ram (stateOf (viewOf s)) budget ≡ resultOf (runsOf P budget 0 ram (viewOf s))
-        result budget allowed =
-            unfold runOf in
-            rw (eq-eqb (length ram) (P .size) whole, le-ltb budgetLimit budget allowed, view-state (viewOf s))
+
+    refused : budgetLimit < budget → (runOf P ram s budget .ram ≡ ram) × (runOf P ram s budget .ran .state ≡ s)
+    unfolding runOf
+    refused above = rw (eq-eqb (length ram) (P .size) (h .sizes .ram-length), lt-ltb budgetLimit budget above) (refl, refl)
+
+    -- and after it: a refused run changes nothing
+    holds-after : Holds (runOf P ram s budget .ram) (viewOf (runOf P ram s budget .ran .state))
+    holds-after =
+        by (ltb budgetLimit budget)
+        (λ t. let e = refused (ltb-true budgetLimit budget t) in subst (λ r. Holds r (viewOf (runOf P ram s budget .ran .state))) (sym (e .0)) (subst (λ u. Holds ram (viewOf u)) (sym (e .1)) h))
+        (λ t.
+        let allowed = ltb-false budgetLimit budget t in
+        subst (λ u. Holds (runOf P ram u budget .ram) (viewOf (runOf P ram u budget .ran .state))) (state-view s)
+        (rw (result allowed) (subst (Holds (runsOf P budget 0 ram (viewOf s) .ram)) (sym (view-state (runsOf P budget 0 ram (viewOf s) .view))) (safe budget 0 ram (viewOf s) h .holds-then))))
+
+  safe-calls : (budgets : List ℕ) (ram : List ℕ) (s : State) → Holds ram (viewOf s) → (budget : ℕ) → budget ≤ budgetLimit
+      → Safe P code (afterCalls P budgets ram s .ram) (afterCalls P budgets ram s .state) budget
+  unfolding afterCalls
+  safe-calls [] ram s h budget allowed = safe-run ram s h budget allowed
+  safe-calls (b ∷ budgets) ram s h budget allowed = safe-calls budgets _ _ (holds-after ram s h b) budget allowed
 
 pub demand3 : (P : Processor) → Sound P → Apart P → Demand3 P
+unfolding afterCalls
 demand3 P sound apart =
-    record {
-      exactly = exactly P;
-      told = told P;
-      safely = λ admitted C e ram whole bytes same s is b budget allowed.
-          let p = passed P admitted C e in
-          let len : length (take C admitted) ≡ C = omega (arith, length-take C admitted, p .0 .whole-ram, p .0 .at-most) in
-          safely P sound apart (take C admitted) (omega (arith, p .0 .at-most)) (obeys P (take C admitted) (p .1)) ram s whole bytes is (rw len same) (omega (arith, p .0 .at-least)) b budget allowed;
-    }
+    record { exactly = exactly P; told = told P; safely = λ admitted C e ram s l. display admitted C e ram s l []; goes-on = display }
+  where
+    display : (admitted : List ℕ) (C : ℕ) → checkOf P admitted C ≡ Admitted → (ram : List ℕ) (s : State) → Loaded P admitted C ram s
+        → (budgets : List ℕ) (budget : ℕ) → budget ≤ budgetLimit
+        → Safe P (take C admitted) (afterCalls P budgets ram s .ram) (afterCalls P budgets ram s .state) budget
+    display admitted C e ram s l budgets =
+        let p = passed P admitted C e in
+        let r = obeys P (take C admitted) (p .1) in
+        let len : length (take C admitted) ≡ C = omega (arith, length-take C admitted, p .0 .whole-ram, p .0 .at-most) in
+        let small : length (take C admitted) ≤ P .size = omega (arith, p .0 .at-most) in
+        let h = begins P sound apart (take C admitted) small r ram s (l .whole-ram) (l .is-ram) (l .is-state) (rw len (l .same-code)) (omega (arith, p .0 .at-least)) (l .begins) in
+        safe-calls P sound apart (take C admitted) small r budgets ram s h

@@ -19,7 +19,7 @@ use Rattle.rules.specs.declared.Verdict.the-variants.{Admitted, Ending}
 use Rattle.rules.specs.Reading.{itemOf, itemAt, scan, firstBad}
 use Rattle.rules.specs.Known.{transferOf}
 use Rattle.rules.specs.Check.{isStart, isTarget, learn, ok1, ok2, ok3, ok4, ok5, ok6, rulesOf, checkOf}
-use Rattle.rules.specs.Safety.{Apart, IsRam, IsBank, IsState, Begins, Safe, Demand3}
+use Rattle.rules.specs.Safety.{Apart, IsRam, IsBank, IsState, Begins, Loaded, Safe, Demand3}
 use Rattle.rules.proofs.Booleans.{and-l, and-r}
 use Rattle.rules.proofs.Demand.{demand3}
 
@@ -71,7 +71,7 @@ indexing-admitted = verdicts .4
 -- "an admitted program, whatever the state, data and allowed budget"
 abbrev pub AlwaysSafe : List ℕ → ℕ → Type 0
 AlwaysSafe program C =
-    (ram : List ℕ) → length ram ≡ 4096 → IsRam ram → take C ram ≡ take C program → (s : State) → IsState s → Begins gpu s → (budget : ℕ) → budget ≤ budgetLimit → Safe gpu (take C program) ram s budget
+    (ram : List ℕ) (s : State) → Loaded gpu program C ram s → (budget : ℕ) → budget ≤ budgetLimit → Safe gpu (take C program) ram s budget
 
 pub card-safe : AlwaysSafe card 16
 card-safe = gpu-demand3 .safely card 16 card-admitted
@@ -133,4 +133,5 @@ card-length = refl
 
 -- no assumption is left but the budget's limit
 pub card-safe-from-start : (budget : ℕ) → budget ≤ budgetLimit → Safe gpu (take 16 card) card start budget
-card-safe-from-start = card-safe card card-length card-ram refl start start-state start-begins
+card-safe-from-start =
+    card-safe card start (record { whole-ram = card-length; is-ram = card-ram; same-code = refl; is-state = start-state; begins = start-begins })

@@ -2,7 +2,7 @@
 use Prim.Native.Nat.{ℕ, zero, suc, _%_, _^_, _≤_, _<_}
 use mathlib.Core.Path.{_≡_}
 use mathlib.Core.Logic.{_↔_}
-use mathlib.Core.List.{List}
+use mathlib.Core.List.{List, [], _∷_}
 use lib.ListN.{length, getD, take}
 use Rattle.memory.specs.Processor.{Processor}
 use Rattle.state.specs.Answers.{numberOf}
@@ -53,6 +53,14 @@ pub record Begins (P : Processor) (s : State) : Type 0 where
   pub at-first : s .core .pc ≡ P .base
   pub none-pending : s .core .pending ≡ None
 
+-- RAM that 31 lets through with the admitted code at its start, whatever stands behind it, and a state that begins
+pub record Loaded (P : Processor) (admitted : List ℕ) (C : ℕ) (ram : List ℕ) (s : State) : Type 0 where
+  pub whole-ram : length ram ≡ P .size
+  pub is-ram : IsRam ram
+  pub same-code : take C ram ≡ take C admitted
+  pub is-state : IsState s
+  pub begins : Begins P s
+
 -- "Each step gets the RAM and state that the one before left, and nobody else writes them meanwhile."
 pub record Left : Type 0 where
   pub state : State
@@ -61,6 +69,11 @@ pub record Left : Type 0 where
 unfoldable pub afterSteps : Processor → ℕ → List ℕ → State → Left
 afterSteps P zero ram s = record { state = s; ram = ram }
 afterSteps P (suc k) ram s = afterSteps P k (stepOf P ram s .ram) (stepOf P ram s .ran .state)
+
+-- A display calls the run again and again, each time with the RAM and state that the call before left: what some calls leave.
+unfoldable pub afterCalls : Processor → List ℕ → List ℕ → State → Left
+afterCalls P [] ram s = record { state = s; ram = ram }
+afterCalls P (budget ∷ budgets) ram s = afterCalls P budgets (runOf P ram s budget .ram) (runOf P ram s budget .ran .state)
 
 module _ (P : Processor) (code : List ℕ) where
   -- "keeps its code byte for byte and its counter on an instruction start"
@@ -108,5 +121,10 @@ pub record Demand3 (P : Processor) : Type 0 where
   pub exactly : (ram : List ℕ) (C : ℕ) → (checkOf P ram C ≡ Admitted) ↔ (IsProgram P ram C × Rules P (take C ram))
   -- and a refusal tells the first rule that is broken, at the lowest address
   pub told : (ram : List ℕ) (C : ℕ) → Means P ram C (checkOf P ram C)
-  -- "an admitted program, whatever the state, data and allowed budget": RAM has the admitted code, and may differ behind it
-  pub safely : (admitted : List ℕ) (C : ℕ) → checkOf P admitted C ≡ Admitted → (ram : List ℕ) → length ram ≡ P .size → IsRam ram → take C ram ≡ take C admitted → (s : State) → IsState s → Begins P s → (budget : ℕ) → budget ≤ budgetLimit → Safe P (take C admitted) ram s budget
+  -- "an admitted program, whatever the state, data and allowed budget"
+  pub safely : (admitted : List ℕ) (C : ℕ) → checkOf P admitted C ≡ Admitted → (ram : List ℕ) (s : State) → Loaded P admitted C ram s
+      → (budget : ℕ) → budget ≤ budgetLimit → Safe P (take C admitted) ram s budget
+  -- and as a display, whatever calls came before
+  pub goes-on : (admitted : List ℕ) (C : ℕ) → checkOf P admitted C ≡ Admitted → (ram : List ℕ) (s : State) → Loaded P admitted C ram s
+      → (budgets : List ℕ) (budget : ℕ) → budget ≤ budgetLimit
+      → Safe P (take C admitted) (afterCalls P budgets ram s .ram) (afterCalls P budgets ram s .state) budget
