@@ -9,8 +9,7 @@ ghost use Rattle.loading.specs.Told.{toldOf};
 use passes::first_access;
 use passes::first_broken;
 use passes::lowest_broken;
-use reading::mark_starts;
-use reading::mark_targets;
+use reading::mark_code;
 use rules::Verdict;
 
 // One of the rules 1 to 6 is broken at offset i.
@@ -34,8 +33,9 @@ fn rules(code: &[u8]) -> Verdict
     requires { ⌜ length (now code) ≤ 4096 ⌝ }
     ensures { λ r. ⌜ r ≡ rulesOf gpu (now (code .entry)) ⌝ }
 {
-    let starts = mark_starts(code);
-    let targets = mark_targets(code);
+    let mut starts = [false; 4104];
+    let mut targets = [false; 4104];
+    mark_code(code, &mut starts, &mut targets);
     let rule = lowest_broken(code, &starts, &targets);
     if rule < 6 {
         return told(rule, first_broken(rule, code, &starts, &targets));

@@ -4,7 +4,7 @@ use mathlib.Core.Path.{_≡_}
 use mathlib.Core.Bool.{Bool, true, false, cond}
 use mathlib.Core.List.{List}
 use lib.Dec.{eqb, ltb}
-use lib.ListN.{getD, set}
+use lib.ListN.{getD, set, replicate}
 use Rattle.memory.specs.Processor.{gpu}
 use Rattle.rules.specs.declared.Shape.{Shape}
 use Rattle.rules.specs.Check.{holds, leads, isStart, isTarget}
@@ -12,6 +12,10 @@ use Rattle.rules.specs.Check.{holds, leads, isStart, isTarget}
 -- how many addresses have a mark: those of RAM, and a few behind it, where the last instruction may end
 abbrev pub markCount : ℕ
 markCount = 4104
+
+-- where nothing is marked yet
+abbrev pub unmarked : List Bool
+unmarked = replicate markCount false
 
 unfoldable pub markAt : List Bool → ℕ → Bool
 markAt marks t =

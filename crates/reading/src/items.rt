@@ -22,7 +22,11 @@ fn word_at(code: &[u8], i: usize) -> u32
     requires { ⌜ i < 65536 ⌝ }
     ensures { λ r. ⌜ (r ≡ wordAt (now (code .entry)) i) × (r < 65536) ⌝ }
 {
-    byte(code, i) * 256 + byte(code, i + 1)
+    if i + 1 < code.len() {
+        wide(code[i]) * 256 + wide(code[i + 1])
+    } else {
+        byte(code, i) * 256
+    }
 }
 
 pub fn item_at(code: &[u8], i: usize) -> Item

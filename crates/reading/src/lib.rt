@@ -6,5 +6,4 @@ pub use items::item_at;
 pub use items::shape_of;
 pub use items::size;
 pub use marks::is_marked;
-pub use marks::mark_starts;
-pub use marks::mark_targets;
+pub use marks::mark_code;

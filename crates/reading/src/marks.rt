@@ -3,7 +3,7 @@
 ghost use mathlib.Core.Path.{_≡_};
 ghost use Prim.Native.Nat.{_+_, _≤_, _<_};
 ghost use lib.ListN.{length};
-ghost use Rattle.reading.specs.Marks.{markAt, mark, MovedInto, Targets, MarksStarts, MarksTargets};
+ghost use Rattle.reading.specs.Marks.{markAt, mark, unmarked, MovedInto, Targets, MarksStarts, MarksTargets};
 use crate::items::item_at;
 use crate::items::shape_of;
 use crate::items::size;
@@ -31,19 +31,6 @@ fn set_mark(marks: &mut [bool; 4104], t: u32)
             marks[i] = true;
         }
     }
-}
-
-pub fn mark_starts(code: &[u8]) -> [bool; 4104]
-    requires { ⌜ length (now code) ≤ 4096 ⌝ }
-    ensures { λ r. ⌜ MarksStarts (now (code .entry)) r ⌝ }
-{
-    let mut marks = [false; 4104];
-    let mut i: usize = 0;
-    while i < code.len() {
-        set_mark(&mut marks, 0xF03000 + i as u32);
-        i += size(shape_of(item_at(code, i)));
-    }
-    marks
 }
 
 // The value of a MOVEI into the register of a JUMP; 0, which is no address of the code, where there is none.
@@ -76,19 +63,20 @@ fn target(a: u32, p: Shape, s: Shape) -> u32
     }
 }
 
-pub fn mark_targets(code: &[u8]) -> [bool; 4104]
-    requires { ⌜ length (now code) ≤ 4096 ⌝ }
-    ensures { λ r. ⌜ MarksTargets (now (code .entry)) r ⌝ }
+// Marks the instruction starts and the targets in one reading of the code. The marks that are lent are clear.
+pub fn mark_code(code: &[u8], starts: &mut [bool; 4104], targets: &mut [bool; 4104])
+    requires { ⌜ (length (now code) ≤ 4096) × (now starts ≡ unmarked) × (now targets ≡ unmarked) ⌝ }
+    ensures { λ _. ⌜ MarksStarts (now (code .entry)) (now (starts .exit)) × MarksTargets (now (code .entry)) (now (targets .exit)) ⌝ }
 {
-    let mut marks = [false; 4104];
     let mut i: usize = 0;
     let mut p = Item::Unbuilt;
     while i < code.len() {
+        let a = 0xF03000 + i as u32;
         let t = item_at(code, i);
         let s = shape_of(t);
-        set_mark(&mut marks, target(0xF03000 + i as u32, shape_of(p), s));
+        set_mark(starts, a);
+        set_mark(targets, target(a, shape_of(p), s));
         i += size(s);
         p = t;
     }
-    marks
 }

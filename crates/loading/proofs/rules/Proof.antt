@@ -12,7 +12,7 @@ told-requires : tie.Need-told-requires
 told-requires c κs =
     let h = c .before .before .before in
     let l = h .before in
-    let s = l .before .before .before .before .before .before in
+    let s = l .before .before .before .before .before .before .before in
     omega (arith, in-code _ _ (l .lowest-broken .ensures) _ (c .first-broken .ensures) (omega (arith, h .if1 .taken)), s .pre)
 
 returns : tie.Need-returns
@@ -41,7 +41,6 @@ pub rules-spec : {M : Type 1} → statement M
 rules-spec =
     tie.close
     (tie.spec
-    (λ c κs. search needs)
     (λ c κs. search needs)
     (λ c κs. search needs)
     (λ c κs. search needs)
