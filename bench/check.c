@@ -1,7 +1,8 @@
-/* Times gpu_check on programs that obey the rules, from 64 bytes of code to 4,096, and prints the time per byte, which
-   stays the same if the check is linear; and on the longest with its end spoilt, for which the check has the most to do.
+/* Times gpu_check on a program that obeys the rules, from 64 bytes of code to 4,096, and prints the time per byte, which
+   stays the same if the check is linear. Then on other programs of 4,096 bytes that give it much to do: the most accesses,
+   the most jumps, and one that is refused at its very end.
 
-   check [--limit MICROSECONDS]: ends with 1 if one of the two longest programs takes longer */
+   check [--limit MICROSECONDS]: ends with 1 if a program of 4,096 bytes takes longer */
 
 #define _POSIX_C_SOURCE 199309L
 
@@ -84,29 +85,68 @@ static double timed(uint64_t length, unsigned answer)
     return times[ROUNDS / 2];
 }
 
-static double timed_line(uint64_t length, unsigned answer)
+static double timed_line(const char *name, uint64_t length, unsigned answer)
 {
     double time = timed(length, answer);
-    printf("%6" PRIu64 " %6u %10.2f %10.2f\n", length, answer, time, 1e3 * time / (double)length);
+    printf("%-9s %6" PRIu64 " %6u %10.2f %10.2f\n", name, length, answer, time, 1e3 * time / (double)length);
     fflush(stdout);
     return time;
+}
+
+static double larger(double a, double b)
+{
+    return a > b ? a : b;
+}
+
+static void fill_mixed(void)
+{
+    end = 0;
+    while (end < sizeof ram) {
+        emit_block();
+    }
+}
+
+/* As many instructions as there can be, each of which sums two ranges. */
+static void fill_accesses(void)
+{
+    end = 0;
+    emit_op(38, 0, 14); /* MOVEI #F03000h,R14 */
+    emit(0x3000);
+    emit(0x00F0);
+    emit_op(35, 8, 3); /* MOVEQ #8,R3 */
+    while (end < sizeof ram - 4) {
+        emit_op(58, 3, 2); /* LOAD (R14+R3),R2 */
+    }
+    emit_op(53, 31, 0); /* JR to itself */
+    emit_op(57, 0, 0);
+}
+
+/* As many jumps as there can be, each to itself. */
+static void fill_jumps(void)
+{
+    end = 0;
+    while (end < sizeof ram) {
+        emit_op(53, 31, 0);
+        emit_op(57, 0, 0);
+    }
 }
 
 int main(int argc, char **argv)
 {
     double limit = argc == 3 && strcmp(argv[1], "--limit") == 0 ? strtod(argv[2], NULL) : 0;
-    double admitted = 0;
-    while (end < sizeof ram) {
-        emit_block();
-    }
-    printf("the loading check, from %d to %d bytes of code: bytes, answer, microseconds, nanoseconds per byte\n", LEAST,
-           GPU_RAM_LENGTH);
+    double longest = 0;
+    printf("the loading check: program, bytes of code, answer, microseconds, nanoseconds per byte\n");
     fflush(stdout);
+    fill_mixed();
     for (uint64_t length = LEAST; length <= GPU_RAM_LENGTH; length *= 2) {
-        admitted = timed_line(length, 0);
+        longest = timed_line("mixed", length, 0);
     }
+    fill_accesses();
+    longest = larger(longest, timed_line("accesses", GPU_RAM_LENGTH, 0));
+    fill_jumps();
+    longest = larger(longest, timed_line("jumps", GPU_RAM_LENGTH, 0));
     end -= 4;
-    emit_op(53, 17, 2); /* the last JR with a condition */
-    double refused = timed_line(GPU_RAM_LENGTH, GPU_RULE_5);
-    return limit > 0 && (admitted > limit || refused > limit);
+    emit_op(53, 31, 2); /* the last jump with a condition */
+    longest = larger(longest, timed_line("refused", GPU_RAM_LENGTH, GPU_RULE_5));
+    return limit > 0 && longest > limit;
 }

@@ -103,10 +103,10 @@ uint64_t gpu_run(uint8_t *ram, size_t ram_len, uint8_t *block, size_t block_len,
 /* Checks the program in the first `code_len` bytes of `ram` before it is run, and changes nothing.
 
    The reply is answer + 256 * address. Answer 0 admits the program: whatever data stands behind the code, whatever the
-   registers and flags, and whatever the budget, a run that starts at GPU_RAM_BASE, running and with no jump pending, then
-   answers 0 or 1 and never a fault, and the code stays as it is. A refusal tells the address of the instruction at fault,
-   or 0 for a wrong length. Where several refusals apply, the first of 31, 33, 21 to 26 is given, and for a rule the lowest
-   address.
+   registers and flags, and whatever the budgets, runs that start at GPU_RAM_BASE, running and with no jump pending, and go
+   on from call to call with what each has left, answer 0 or 1 and never a fault, and the code stays as it is. A refusal tells
+   the address of the instruction at fault, or 0 for a wrong length. Where several refusals apply, the first of 31, 33, 21 to
+   26 is given, and for a rule the lowest address.
 
    `ram` must have `ram_len` bytes that may be read. Any code length may be asked for. */
 uint64_t gpu_check(const uint8_t *ram, size_t ram_len, uint64_t code_len);
