@@ -87,39 +87,31 @@ module _ (m : ℕ) (two : 2 ≤ m) where
     counter-fits (At t) pc hp = hp
 
     moved : (p : Pending) → PendingFits p → CoreFits m (movedOf k p)
-    moved p hp =
-        record { bank-fits = h .bank-fits; flags-fit = h .flags-fit; pc-fits = counter-fits (k .pending) (k .pc) (h .pending-fits); pending-fits = hp; remainder-fits = h .remainder-fits; mode-fits = h .mode-fits; accumulator-fits = h .accumulator-fits }
+    moved p hp = search (h, hp, counter-fits (k .pending) (k .pc) (h .pending-fits))
 
     done : CoreFits m (movedOf k None)
     done = moved None tt
 
     skipped : CoreFits m (skippedOf k)
-    skipped =
-        record { bank-fits = h .bank-fits; flags-fit = h .flags-fit; pc-fits = omega arith; pending-fits = tt; remainder-fits = h .remainder-fits; mode-fits = h .mode-fits; accumulator-fits = h .accumulator-fits }
+    skipped = search (arith, h)
 
     flagged : (f : _) → FlagsFit m f → CoreFits m (withFlags k f)
-    flagged f hf =
-        record { bank-fits = h .bank-fits; flags-fit = hf; pc-fits = h .pc-fits; pending-fits = h .pending-fits; remainder-fits = h .remainder-fits; mode-fits = h .mode-fits; accumulator-fits = h .accumulator-fits }
+    flagged f hf = search (h, hf)
 
     remaindered : (n : ℕ) → n < 2 ^ 32 → CoreFits m (withRemainder k n)
-    remaindered n hn =
-        record { bank-fits = h .bank-fits; flags-fit = h .flags-fit; pc-fits = h .pc-fits; pending-fits = h .pending-fits; remainder-fits = hn; mode-fits = h .mode-fits; accumulator-fits = h .accumulator-fits }
+    remaindered n hn = search (h, hn)
 
     accumulated : (n : ℕ) → n < 2 ^ 32 → CoreFits m (withAccumulator k n)
-    accumulated n hn =
-        record { bank-fits = h .bank-fits; flags-fit = h .flags-fit; pc-fits = h .pc-fits; pending-fits = h .pending-fits; remainder-fits = h .remainder-fits; mode-fits = h .mode-fits; accumulator-fits = hn }
+    accumulated n hn = search (h, hn)
 
     with-mode : (n : ℕ) → CoreFits m (withMode k n)
-    with-mode n =
-        record { bank-fits = h .bank-fits; flags-fit = h .flags-fit; pc-fits = h .pc-fits; pending-fits = h .pending-fits; remainder-fits = h .remainder-fits; mode-fits = omega arith; accumulator-fits = h .accumulator-fits }
+    with-mode n = search (arith, h)
 
     with-control : (n : ℕ) → CoreFits m (withControl k n)
-    with-control n =
-        record { bank-fits = h .bank-fits; flags-fit = h .flags-fit; pc-fits = h .pc-fits; pending-fits = h .pending-fits; remainder-fits = h .remainder-fits; mode-fits = h .mode-fits; accumulator-fits = h .accumulator-fits }
+    with-control n = search h
 
     with-flag-register : (n : ℕ) → CoreFits m (withFlagRegister k n)
-    with-flag-register n =
-        record { bank-fits = omega arith; flags-fit = record { z-fits = omega arith; n-fits = omega arith; c-fits = omega arith }; pc-fits = h .pc-fits; pending-fits = h .pending-fits; remainder-fits = h .remainder-fits; mode-fits = h .mode-fits; accumulator-fits = h .accumulator-fits }
+    with-flag-register n = search (arith, h)
 
     jumped : (p : Pending) (condition target : ℕ) → target < 2 ^ 32 → CoreFits m (jumpOf k p condition target .core)
     jumped (At t) condition target ht = h
