@@ -5,7 +5,7 @@ IMAGE = examples/card.words
 TABLE = docs/vectors/base.csv
 DIFFERENTIAL = $(wildcard tests/differential/*.c) bench/interpreter.c
 
-.PHONY: help run loadcheck rows table kiosk test tests bench instructions check
+.PHONY: help run loadcheck explain rows table kiosk test tests bench instructions check
 
 help: ## list these commands
 	@grep -E '^[a-z]+:.*##' Makefile | sed 's/:.*## /\t/' | expand -t 14
@@ -20,6 +20,10 @@ run: ## run an image and print its card: IMAGE=FILE, of 4,096 bytes or a .words 
 loadcheck: ## check an image before it runs: IMAGE=FILE, as for run, and LENGTH=BYTES of code (default: paper 01's card)
 	@tools/prove check loadcheck
 	@{ python3 tools/image.py "$(IMAGE)"; echo "$(or $(LENGTH),16)"; } | target/bin/loadcheck
+
+explain: ## run an image and explain its card in plain words: IMAGE=FILE, as for run; with LENGTH=BYTES check it instead
+	@tools/prove check run loadcheck explain
+	@$(MAKE) --no-print-directory $(if $(LENGTH),loadcheck,run) | target/bin/explain
 
 rows: ## run the published rows and the further vectors through the compiled functions
 	@tools/prove check vectors

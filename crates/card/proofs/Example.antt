@@ -2,8 +2,10 @@
 -- Assumes nothing.
 use mathlib.Core.Path.{_≡_, refl}
 use mathlib.Core.List.{[], _∷_}
-use Rattle.card.specs.Digits.{hexDigits, decimalDigits, decimalOf}
-use Rattle.card.specs.Text.{lineOf, cardText}
+use Rattle.text.specs.Bytes.{bytes}
+use Rattle.text.specs.Lines.{lineOf}
+use Rattle.text.specs.Digits.{hexDigits, decimalDigits, decimalOf}
+use Rattle.card.specs.Text.{cardText}
 
 example : cardText (record { answer = 1; steps = 3; pc = 15740938; flags = 0; remainder = 0; accumulator = 0 }) ≡
     -- answer=1
@@ -18,7 +20,7 @@ example : cardText (record { answer = 1; steps = 3; pc = 15740938; flags = 0; re
     114 ∷ 101 ∷ 109 ∷ 97 ∷ 105 ∷ 110 ∷ 61 ∷ 48 ∷ 48 ∷ 48 ∷ 48 ∷ 48 ∷ 48 ∷ 48 ∷ 48 ∷ 10 ∷
     -- acc=00000000
     97 ∷ 99 ∷ 99 ∷ 61 ∷ 48 ∷ 48 ∷ 48 ∷ 48 ∷ 48 ∷ 48 ∷ 48 ∷ 48 ∷ 10 ∷ []
-unfolding cardText lineOf decimalOf decimalDigits hexDigits
+unfolding bytes cardText lineOf decimalOf decimalDigits hexDigits
 example = refl
 
 least : decimalOf 0 ≡ 48 ∷ []

@@ -1,5 +1,3 @@
-pub mod Digits
 pub mod Example
 pub mod Lines
-pub mod Writing
 pub mod Room

@@ -3,10 +3,11 @@
 use Prim.Native.Nat.{ℕ}
 use mathlib.Core.List.{List}
 use Rattle.card.specs.declared.Card.{Card}
-use Rattle.card.specs.Digits.{hexDigits, decimalOf}
-use Rattle.card.specs.Text.{answerKey, stepsKey, pcKey, flagsKey, remainKey, accKey, lineOf, cardText}
-use Rattle.card.specs.Wrote.{Wrote}
-use Rattle.card.proofs.Writing.{then}
+use Rattle.text.specs.Lines.{lineOf}
+use Rattle.text.specs.Digits.{hexDigits, decimalOf}
+use Rattle.card.specs.Text.{answerKey, stepsKey, pcKey, flagsKey, remainKey, accKey, cardText}
+use Rattle.text.specs.Wrote.{Wrote}
+use Rattle.text.proofs.Writing.{then}
 
 pub lines : (card : Card) {a b d e f g h : List ℕ} {i j k l m n : ℕ}
     → Wrote a 0 (lineOf answerKey (decimalOf (card .answer))) b i

@@ -1,4 +1,2 @@
-pub mod Digits
 pub mod Text
-pub mod Wrote
 pub mod Image

@@ -1,31 +1,29 @@
 -- The text of the run card, as a list of ASCII codes.
 use Prim.Native.Nat.{ℕ}
-use mathlib.Core.List.{List, [], _∷_, _++_}
+use mathlib.Core.List.{List, _++_}
 use Rattle.card.specs.declared.Card.{Card}
-use Rattle.card.specs.Digits.{hexDigits, decimalOf}
+use Rattle.text.specs.Bytes.{bytes}
+use Rattle.text.specs.Digits.{hexDigits, decimalOf}
+use Rattle.text.specs.Lines.{lineOf}
 
--- The keys, each with its '=': answer=, steps=, pc=, flags=, remain= and acc=.
+-- The keys, each with its '='.
 abbrev pub answerKey : List ℕ
-answerKey = 97 ∷ 110 ∷ 115 ∷ 119 ∷ 101 ∷ 114 ∷ 61 ∷ []
+answerKey = bytes "answer="
 
 abbrev pub stepsKey : List ℕ
-stepsKey = 115 ∷ 116 ∷ 101 ∷ 112 ∷ 115 ∷ 61 ∷ []
+stepsKey = bytes "steps="
 
 abbrev pub pcKey : List ℕ
-pcKey = 112 ∷ 99 ∷ 61 ∷ []
+pcKey = bytes "pc="
 
 abbrev pub flagsKey : List ℕ
-flagsKey = 102 ∷ 108 ∷ 97 ∷ 103 ∷ 115 ∷ 61 ∷ []
+flagsKey = bytes "flags="
 
 abbrev pub remainKey : List ℕ
-remainKey = 114 ∷ 101 ∷ 109 ∷ 97 ∷ 105 ∷ 110 ∷ 61 ∷ []
+remainKey = bytes "remain="
 
 abbrev pub accKey : List ℕ
-accKey = 97 ∷ 99 ∷ 99 ∷ 61 ∷ []
-
--- A line: a key, a value, and "a line feed after every line".
-unfoldable pub lineOf : List ℕ → List ℕ → List ℕ
-lineOf key value = key ++ (value ++ (10 ∷ []))
+accKey = bytes "acc="
 
 -- It "prints six key=value lines in this order: answer and steps in decimal; counter, F02100h value,
 -- remainder and accumulator as eight hex digits."

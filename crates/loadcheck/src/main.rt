@@ -26,19 +26,6 @@ fn number_in(text: &[u8]) -> u64 {
     n
 }
 
-fn hexadecimal(address: u32) {
-    let mut text = [0u8; 8];
-    let mut n = address;
-    let mut i: usize = 8;
-    while 0 < i {
-        i -= 1;
-        let d = (n % 16) as u8;
-        text[i] = if d < 10 { 48 + d } else { 55 + d };
-        n = n / 16;
-    }
-    io::write_all(1, &text);
-}
-
 fn main() {
     let mut image = [0u8; 4096];
     let n = io::read_full(0, &mut image);
@@ -47,9 +34,7 @@ fn main() {
     let m = io::read_full(0, &mut digits);
     let code_len = number_in(&digits[..m]);
     let v = check(&image[..n], code_len);
-    io::write_all(1, b"answer=");
-    io::print_decimal(1, v.number() as u64);
-    io::write_all(1, b"\naddress=");
-    hexadecimal(v.address());
-    io::write_all(1, b"\n");
+    let mut out = [0u8; 64];
+    let count = text::check::write(v.number(), v.address(), &mut out);
+    io::write_all(1, &out[..count]);
 }

@@ -2,12 +2,14 @@
 -- Assumes nothing.
 use borrow.Author.Needs.{needs}
 use native.Mathlib.Omega.{arith}
+use Rattle.text.specs.Bytes.{bytes}
 use Rattle.card.proofs.Lines.{lines}
-use Rattle.card.proofs.Writing.{whole}
+use Rattle.text.proofs.Writing.{whole}
 use Rattle.card.proofs.write.Statement.{statement}
 use Rattle.card.proofs.write.Tie as tie
 
 returns : tie.Need-returns
+unfolding bytes
 returns c =
     let at-remain = c .before .before .before in
     let at-flags = at-remain .before .before .before in

@@ -15,7 +15,7 @@ returns c =
     let r = c .before .before .before .before .before in
     let s = r .before in
     let a = s .before .before .before .args in
-    rw (c .write .ensures .0, c .write .ensures .1, c .before .before .told .ensures)
+    rw (c .write .ensures .counted, c .write .ensures .stored, c .before .before .told .ensures)
     (ap (λ t. printedFrom t (now (a .out))) (r .run .ensures)
     ∙ ap (λ t. printedFrom (runOf gpu (now (a .ram)) t 1000000) (now (a .out))) (s .start .ensures))
 

@@ -1,0 +1,38 @@
+-- `rest_of_check` meets its contract: by the line that was found or not, and by the end of the text.
+-- Assumes nothing.
+use borrow.Author.Needs.{needs}
+use Prim.Native.Nat.{ℕ}
+use lib.Seq.{drop-cons}
+use Rattle.text.specs.Bytes.{bytes}
+use Rattle.parser.specs.Readings.{checkOf}
+use Rattle.parser.proofs.Steps.{behind}
+use Rattle.parser.proofs.rest_of_check.Statement.{statement}
+use Rattle.parser.proofs.rest_of_check.Tie as tie
+
+returns : tie.Need-returns
+unfolding checkOf bytes
+returns c = rw (← c .before .before .hex-line .ensures, c .enum-told .given .1)
+
+returns-2 : tie.Need-returns-2
+unfolding checkOf bytes
+returns-2 c =
+    let found = c .before .before in
+    rw (← found .before .before .hex-line .ensures, found .address .given .1, drop-cons {A = ℕ} _ _ 0 (c .if1 .taken))
+
+returns-3 : tie.Need-returns-3
+unfolding checkOf bytes
+returns-3 c =
+    let found = c .before .before in
+    rw (← found .before .before .hex-line .ensures, found .address .given .1, behind _ _ (c .if1 .left))
+
+pub rest-of-check-spec : {M : Type 1} → statement M
+rest-of-check-spec =
+    tie.close
+    (tie.spec
+    (λ c. search needs)
+    (λ c κs. search needs)
+    (λ c. search needs)
+    (λ c. search needs)
+    returns
+    returns-2
+    returns-3)

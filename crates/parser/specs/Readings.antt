@@ -1,0 +1,34 @@
+-- What a text says: the card of a run, the answer of the loading check, or neither.
+use Prim.Native.Nat.{ℕ}
+use mathlib.Core.List.{List, [], _∷_}
+use Rattle.parser.specs.declared.Reading.{Reading}
+use Rattle.parser.specs.declared.Reading.the-variants.{Card, Check, Damaged, NotACard}
+use Rattle.parser.specs.Lines.{Line, number, none, decimal, hexadecimal, lineOf}
+
+-- Goes on with a line's number and the text behind the line, or, where there is no such line, answers the reading given.
+abbrev pub from : Line → Reading → (ℕ → List ℕ → Reading) → Reading
+from (number n t) otherwise go = go n t
+from none otherwise go = otherwise
+
+abbrev pub atEnd : List ℕ → Reading → Reading → Reading
+atEnd [] otherwise whole = whole
+atEnd (c ∷ cs) otherwise whole = otherwise
+
+-- The check prints its answer and, as the second line, an address.
+unfoldable pub checkOf : ℕ → List ℕ → Reading
+checkOf answer t = from (lineOf hexadecimal "address=" t) (Damaged 2) (λ address t. atEnd t (Damaged 3) (Check answer address))
+
+-- The lines of a card behind its steps.
+unfoldable pub cardOf : ℕ → ℕ → List ℕ → Reading
+cardOf answer steps t =
+    from (lineOf hexadecimal "pc=" t) (Damaged 3) (λ pc t.
+    from (lineOf hexadecimal "flags=" t) (Damaged 4) (λ flags t.
+    from (lineOf hexadecimal "remain=" t) (Damaged 5) (λ remainder t.
+    from (lineOf hexadecimal "acc=" t) (Damaged 6) (λ accumulator t.
+    atEnd t (Damaged 7) (Card answer steps pc)))))
+
+-- A text that does not begin with a line answer= is no card. Behind that line come those of a card or that of the check.
+unfoldable pub readingOf : List ℕ → Reading
+readingOf t =
+    from (lineOf decimal "answer=" t) NotACard (λ answer t.
+    from (lineOf decimal "steps=" t) (checkOf answer t) (λ steps t. cardOf answer steps t))
