@@ -5,7 +5,7 @@ IMAGE = examples/card.words
 TABLE = docs/vectors/base.csv
 DIFFERENTIAL = $(wildcard tests/differential/*.c) bench/interpreter.c
 
-.PHONY: help run loadcheck explain rows table kiosk test tests bench instructions check
+.PHONY: help run loadcheck explain rows table kiosk test tests programs differential loading bench instructions check
 
 help: ## list these commands
 	@grep -E '^[a-z]+:.*##' Makefile | sed 's/:.*## /\t/' | expand -t 14
@@ -38,8 +38,15 @@ kiosk: target/kiosk ## run an image frame by frame: IMAGE=FILE, as for run; chec
 test: ## the whole gate: proofs, must-fail edits, programs, tests
 	@.ci/run
 
-tests: target/differential target/loading target/kiosk target/libgpu.so ## the tests over what is built already
+tests: ## the tests over what is built already
+	@$(MAKE) --no-print-directory -j2 programs differential loading target/kiosk target/libgpu.so
 	@tests/run
+
+programs:
+	@tests/programs
+
+differential loading: %: target/%
+	@target/$@
 
 bench: target/bench target/checkbench ## time a run beside a plain C interpreter, and the loading check: about a minute
 	@target/bench

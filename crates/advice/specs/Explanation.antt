@@ -5,8 +5,8 @@ use Rattle.text.specs.Bytes.{bytes}
 use Rattle.parser.specs.declared.Reading.{Reading}
 use Rattle.parser.specs.declared.Reading.the-variants.{Card, Check, Damaged, NotACard}
 use Rattle.parser.specs.Readings.{readingOf}
-use Rattle.advice.specs.Fill.{filled}
-use Rattle.advice.specs.Table.{runText, checkText, damaged, noCard}
+use Rattle.template.specs.Fill.{filled}
+use Rattle.sentences.specs.Table.{runText, checkText, damaged, noCard}
 
 -- The card's own address is its counter. The check counts no steps.
 abbrev pub said : Reading → List ℕ

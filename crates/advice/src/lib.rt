@@ -1,14 +1,11 @@
 // What a number that comes back means, in sentences to be read aloud.
 ghost use Rattle.text.specs.Wrote.{Begins};
 ghost use Rattle.advice.specs.Explanation.{explanationOf};
-use crate::fill::fill;
-use crate::table::check_text;
-use crate::table::run_text;
 use parser::Reading;
 use parser::read;
-
-mod fill;
-mod table;
+use sentences::check_text;
+use sentences::run_text;
+use template::fill;
 
 // Explains what the run program or the loading check printed: writes the sentences at the start of the array, and answers
 // their length. Any other text gets sentences too, which say what is wrong with it.

@@ -3,7 +3,7 @@
 use mathlib.Core.Path.{_≡_, refl}
 use mathlib.Core.List.{[], _∷_}
 use Rattle.text.specs.Bytes.{bytes}
-use Rattle.text.specs.Lines.{lineOf}
+use Rattle.lines.specs.Lines.{lineOf}
 use Rattle.text.specs.Digits.{hexDigits, decimalDigits, decimalOf}
 use Rattle.card.specs.Text.{cardText}
 

@@ -3,7 +3,7 @@
 use Prim.Native.Nat.{ℕ}
 use mathlib.Core.List.{List}
 use Rattle.card.specs.declared.Card.{Card}
-use Rattle.text.specs.Lines.{lineOf}
+use Rattle.lines.specs.Lines.{lineOf}
 use Rattle.text.specs.Digits.{hexDigits, decimalOf}
 use Rattle.card.specs.Text.{answerKey, stepsKey, pcKey, flagsKey, remainKey, accKey, cardText}
 use Rattle.text.specs.Wrote.{Wrote}

@@ -4,7 +4,7 @@ use mathlib.Core.List.{List, _++_}
 use Rattle.card.specs.declared.Card.{Card}
 use Rattle.text.specs.Bytes.{bytes}
 use Rattle.text.specs.Digits.{hexDigits, decimalOf}
-use Rattle.text.specs.Lines.{lineOf}
+use Rattle.lines.specs.Lines.{lineOf}
 
 -- The keys, each with its '='.
 abbrev pub answerKey : List ℕ

@@ -1,8 +1,8 @@
 // The text of the run card: what the run program prints of a run.
 ghost use Rattle.text.specs.Wrote.{Begins};
 ghost use Rattle.card.specs.Text.{cardText};
-use text::decimal_line;
-use text::hex_line;
+use lines::decimal_line;
+use lines::hex_line;
 
 pub mod image;
 

@@ -5,7 +5,7 @@ use Rattle.isa.specs.declared.Instr.the-variants.{Add, Addc, Addq, Addqt, Sub, 
 use Rattle.class.specs.declared.Class.{Class}
 use Rattle.class.specs.declared.Class.the-variants as C
 use Rattle.class.specs.declared.Address.the-variants.{At, Offset, Indexed}
-use Rattle.isa.specs.Fields.{quickOf}
+use Rattle.field.specs.Fields.{quickOf}
 
 -- "LOAD, STORE: address in a register, or R14 or R15 plus 4 × quick n or plus a register."
 -- CMP, CMPQ, BTST, IMULTN, IMACN, NOP and MOVETA write no register of the active bank;

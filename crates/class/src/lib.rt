@@ -1,13 +1,13 @@
 // An instruction's class: the view of it that the loading rules take.
 ghost use mathlib.Core.Path.{_≡_};
 ghost use Rattle.class.specs.Classes.{classOf};
+use field::quick;
+use field::quick_bytes;
 use isa::Condition;
 use isa::Instr;
 use isa::Reg;
 use isa::Signed;
 use isa::Unsigned;
-use isa::quick;
-use isa::quick_bytes;
 
 // Where a LOAD or STORE reaches: at a register's content, at R14's or R15's plus a number of bytes, or plus a register's content.
 pub enum Address {

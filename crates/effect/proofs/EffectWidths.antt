@@ -8,7 +8,7 @@ use lib.Dec.{eqb}
 use Rattle.isa.specs.declared.Instr.{Instr}
 use Rattle.isa.specs.declared.Instr.the-variants.{Load, Store, Jump, Nop}
 use Rattle.isa.specs.declared.Decoded.the-variants as D
-use Rattle.isa.specs.Fields.{quickOf, signedFieldOf}
+use Rattle.field.specs.Fields.{quickOf, signedFieldOf}
 use Rattle.isa.specs.Table.{formOf, instructions}
 use Rattle.isa.specs.Words.{opcodeIn, among, instructionAt, built, decodedAt, decodeOf}
 use Rattle.values.specs.Signed.{unsignedOf}

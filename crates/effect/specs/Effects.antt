@@ -8,7 +8,7 @@ use Rattle.isa.specs.declared.Instr.{Instr}
 use Rattle.isa.specs.declared.Instr.the-variants.{Add, Addc, Addq, Addqt, Sub, Subc, Subq, Subqt, Neg, And, Or, Xor, Not, Btst, Bset, Bclr, Mult, Imult, Imultn, Resmac, Imacn, Div, Abs, Sh, Shlq, Shrq, Sha, Sharq, Ror, Rorq, Cmp, Cmpq, Sat8, Sat16, Move, Moveq, Moveta, Movefa, Movei, Load, LoadR14n, LoadR15n, Store, StoreR14n, StoreR15n, MovePc, Jump, Jr, Mtoi, Normi, Nop, LoadR14r, LoadR15r, StoreR14r, StoreR15r, Sat24}
 use Rattle.isa.specs.declared.Decoded.{Decoded}
 use Rattle.isa.specs.declared.Decoded.the-variants as D
-use Rattle.isa.specs.Fields.{quickOf, signedFieldOf}
+use Rattle.field.specs.Fields.{quickOf, signedFieldOf}
 use Rattle.values.specs.declared.Flags.{Flags}
 use Rattle.alu.specs.Add.{addOf, addcOf, subOf, subcOf, negOf, absOf, cmpOf, cmpqOf}
 use Rattle.alu.specs.Logic.{andOf, orOf, xorOf, notOf, btstOf, bsetOf, bclrOf}

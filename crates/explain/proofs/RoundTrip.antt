@@ -11,14 +11,14 @@ use borrow.Author.Tests.{lt-ltb, le-ltb, lt-leb, eq-eqb, ne-eqb, ltb-true, ltb-f
 use lib.Dec.{ltb}
 use lib.ListN.{length, length-append}
 use Rattle.text.specs.Bytes.{bytes}
-use Rattle.text.specs.Lines.{lineOf, checkText}
+use Rattle.lines.specs.Lines.{lineOf, checkText}
 use Rattle.text.specs.Digits.{digitOf, hexDigits, decimalDigits, decimalOf}
 use Rattle.text.proofs.Digits.{decimal-length}
 use Rattle.card.specs.declared.Card.{Card}
 use Rattle.card.specs.Text.{answerKey, stepsKey, pcKey, flagsKey, remainKey, accKey, cardText}
 use Rattle.advice.specs.Explanation.{said, explanationOf}
-use Rattle.advice.specs.Fill.{filled}
-use Rattle.advice.specs.Table.{runText}
+use Rattle.template.specs.Fill.{filled}
+use Rattle.sentences.specs.Table.{runText}
 use Rattle.parser.specs.declared.Reading.the-variants.{Card as Read, Check}
 use Rattle.parser.specs.Lines.{Line, number, none, Digits, decimal, hexadecimal, digitValue, numberIn, keyedIn}
 use Rattle.parser.specs.Readings.{checkOf, cardOf, readingOf}

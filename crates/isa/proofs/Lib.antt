@@ -1,4 +1,3 @@
 pub mod Each
-pub mod Fields
 pub mod Operands
 pub mod RoundTrip

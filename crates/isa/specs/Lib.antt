@@ -2,4 +2,3 @@
 pub mod Table
 pub mod Words
 pub mod RoundTrip
-pub mod Fields

@@ -2,13 +2,9 @@
 //
 // The numbers are those of source document 001, section 5.0; which words are built is paper 01's, "Words".
 
-mod field;
 mod form;
 mod word;
 
-pub use field::quick;
-pub use field::quick_bytes;
-pub use field::signed_field;
 pub use word::decode;
 pub use word::encode;
 

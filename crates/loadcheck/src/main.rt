@@ -35,6 +35,6 @@ fn main() {
     let code_len = number_in(&digits[..m]);
     let v = check(&image[..n], code_len);
     let mut out = [0u8; 64];
-    let count = text::check::write(v.number(), v.address(), &mut out);
+    let count = lines::check::write(v.number(), v.address(), &mut out);
     io::write_all(1, &out[..count]);
 }

@@ -7,7 +7,7 @@ ghost use Rattle.rules.specs.Check as check;
 ghost use Rattle.reading.specs.Marks.{MarksStarts, MarksTargets};
 ghost use Rattle.passes.specs.Passes.{Here, testOf};
 use alu::jump::jr_target;
-use isa::signed_field;
+use field::signed_field;
 use reading::is_marked;
 use reading::item_at;
 use reading::shape_of;

@@ -8,7 +8,7 @@ use crate::items::item_at;
 use crate::items::shape_of;
 use crate::items::size;
 use alu::jump::jr_target;
-use isa::signed_field;
+use field::signed_field;
 use rules::Item;
 use rules::Shape;
 

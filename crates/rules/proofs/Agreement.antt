@@ -9,7 +9,8 @@ use lib.Bits.{bitAnd}
 use lib.Dec.{eqb}
 use lib.ListN.{getD}
 use Rattle.isa.specs.declared.Decoded.the-variants as D
-use Rattle.isa.specs.Fields.{quickOf, signedFieldOf}
+use Rattle.field.proofs.Bounds.{quick-most}
+use Rattle.field.specs.Fields.{quickOf, signedFieldOf}
 use Rattle.isa.specs.Table.{instructions}
 use Rattle.isa.specs.Words as words
 use Rattle.isa.specs.Words.{among, instructionAt, decodedAt}
@@ -106,13 +107,6 @@ module _ (a : List ℕ) (pc : ℕ) where
   Agrees (C.Jump r c) e = e ≡ E.Jump c (getD a r 0)
   Agrees (C.Jr n c) e = e ≡ E.Jump c (jrTargetOf pc (signedFieldOf n))
 
-quick-small : (q : ℕ) → quickOf q ≤ 32
-quick-small q = go (eqb (q % 32) 0)
-  where
-    go : (t : Bool) → cond t 32 (q % 32) ≤ 32
-    go true = omega arith
-    go false = omega arith
-
 -- the operands are the contents of the registers that two fields name
 module _ (a : List ℕ) (s d : ℕ) (x : Operands) (es : x .s ≡ getD a s 0) (ed : x .d ≡ getD a d 0) (small : d % 32 ≡ d) where
   -- in the order of the table
@@ -124,8 +118,8 @@ module _ (a : List ℕ) (s d : ℕ) (x : Operands) (es : x .s ≡ getD a s 0) (e
       ⊗ (small, ap (λ n. (n + quickOf s) % 2 ^ 32) ed)
       ⊗ small
       ⊗ small
-      ⊗ (quick-small s ⊗ (small, ap (λ n. (n + 2 ^ 32 - quickOf s) % 2 ^ 32) ed))
-      ⊗ (quick-small s ⊗ (small, ap (λ n. (n + 2 ^ 32 - quickOf s) % 2 ^ 32) ed))
+      ⊗ (quick-most s ⊗ (small, ap (λ n. (n + 2 ^ 32 - quickOf s) % 2 ^ 32) ed))
+      ⊗ (quick-most s ⊗ (small, ap (λ n. (n + 2 ^ 32 - quickOf s) % 2 ^ 32) ed))
       ⊗ small
       ⊗ (small, ap (λ n. bitAnd n (x .s)) ed ∙ ap (bitAnd (getD a d 0)) es)
       ⊗ small

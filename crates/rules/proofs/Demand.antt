@@ -16,10 +16,10 @@ use Rattle.state.specs.declared.Activity.{Activity}
 use Rattle.state.specs.declared.Activity.the-variants as A
 use Rattle.state.specs.declared.answers.Answer.the-variants.{Running, Stopped}
 use Rattle.cpu.specs.Step.{View, viewFrom, advanceOf}
-use Rattle.cpu.proofs.Lengths.{Lengths}
-use Rattle.cpu.proofs.Lengths as lengths
-use Rattle.cpu.proofs.Widths.{Below, PendingFits, CoreFits, Widths}
-use Rattle.cpu.proofs.Widths as widths
+use Rattle.laws.proofs.Lengths.{Lengths}
+use Rattle.laws.proofs.Lengths as lengths
+use Rattle.laws.proofs.Widths.{Below, PendingFits, CoreFits, Widths}
+use Rattle.laws.proofs.Widths as widths
 use Rattle.machine.specs.declared.State.{State}
 use Rattle.machine.specs.Run.{budgetLimit, restOf, Runs, runsOf, viewOf, stateOf, resultOf, runOf, stepOf}
 use Rattle.machine.proofs.Runs.{stopped}

@@ -9,7 +9,7 @@ use lib.Dec.{eqb}
 use lib.ListN.{length, getD, set, take}
 use lib.Seq.{getD-set-same}
 use borrow.Author.Tests.{eq-eqb, eqb-true}
-use Rattle.isa.specs.Fields.{signedFieldOf}
+use Rattle.field.specs.Fields.{signedFieldOf}
 use Rattle.isa.specs.Words.{decodeOf}
 use Rattle.values.specs.declared.Flags.{Flags}
 use Rattle.alu.specs.Jump.{chosenOf, takenOf, jrTargetOf}
@@ -32,7 +32,7 @@ use Rattle.state.specs.declared.Pending.the-variants as Q
 use Rattle.state.specs.declared.Activity.the-variants as A
 use Rattle.state.specs.declared.answers.Answer.the-variants.{Running}
 use Rattle.cpu.specs.Step.{View, viewFrom, Outcome, unwritten, doneOf, jumpOf, stayOf, inActive, moveCounterOf, moveLoadedOf, loadOf, storeOf, applyOf, operandsOf, executeOf, advanceOf}
-use Rattle.cpu.proofs.Lengths.{Lengths}
+use Rattle.laws.proofs.Lengths.{Lengths}
 use Rattle.rules.specs.declared.Range.{Range}
 use Rattle.rules.specs.declared.Item.{Item}
 use Rattle.rules.specs.declared.Item.the-variants.{Unbuilt, Built}

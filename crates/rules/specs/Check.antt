@@ -4,7 +4,7 @@ use mathlib.Core.Bool.{Bool, true, false, not, cond, _&&_, _||_}
 use mathlib.Core.List.{List}
 use lib.Dec.{eqb, ltb, leb}
 use lib.ListN.{length, take}
-use Rattle.isa.specs.Fields.{signedFieldOf}
+use Rattle.field.specs.Fields.{signedFieldOf}
 use Rattle.alu.specs.Jump.{jrTargetOf}
 use Rattle.memory.specs.Processor.{Processor}
 use Rattle.rules.specs.declared.Range.{Range}

@@ -4,7 +4,7 @@ use mathlib.Core.Path.{_≡_}
 use mathlib.Core.Bool.{true, false}
 use mathlib.Core.List.{List}
 use Rattle.class.specs.declared.Address.{Address}
-use Rattle.isa.specs.Fields.{signedFieldOf}
+use Rattle.field.specs.Fields.{signedFieldOf}
 use Rattle.alu.specs.Jump.{jrTargetOf}
 use Rattle.memory.specs.Processor.{Processor}
 use Rattle.rules.specs.declared.Range.{Range}

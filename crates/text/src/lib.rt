@@ -4,32 +4,7 @@ ghost use mathlib.Core.List.{[], _∷_};
 ghost use Prim.Native.Nat.{_+_, _<_, _≤_};
 ghost use lib.ListN.{length};
 ghost use Rattle.text.specs.Digits.{digitOf, hexDigits, decimalOf};
-ghost use Rattle.text.specs.Lines.{lineOf};
 ghost use Rattle.text.specs.Wrote.{Wrote};
-
-pub mod check;
-
-// Writes a line: a key, n in decimal, a line feed.
-pub fn decimal_line(out: &mut [u8], at: usize, key: &[u8], n: u32) -> usize
-    requires { ⌜ at + length (now key) + 11 ≤ length (now out) ⌝ }
-    ensures { λ r. ⌜ Wrote (now (out .entry)) at (lineOf (now (key .entry)) (decimalOf n)) (now (out .exit)) r ⌝ }
-    ensures { λ r. ⌜ r ≤ at + length (now (key .entry)) + 11 ⌝ }
-{
-    let value = copy(out, at, key);
-    let end = decimal(out, value, n);
-    put(out, end, 10)
-}
-
-// The same with n as eight hexadecimal digits.
-pub fn hex_line(out: &mut [u8], at: usize, key: &[u8], n: u32) -> usize
-    requires { ⌜ at + length (now key) + 9 ≤ length (now out) ⌝ }
-    ensures { λ r. ⌜ Wrote (now (out .entry)) at (lineOf (now (key .entry)) (hexDigits 8 n)) (now (out .exit)) r ⌝ }
-    ensures { λ r. ⌜ r ≤ at + length (now (key .entry)) + 9 ⌝ }
-{
-    let value = copy(out, at, key);
-    let end = hex(out, value, 8, n);
-    put(out, end, 10)
-}
 
 // Writes n in decimal, with no leading zeros.
 pub fn decimal(out: &mut [u8], at: usize, n: u32) -> usize

@@ -4,7 +4,7 @@ use borrow.Author.Needs.{needs}
 use borrow.Author.Tests.{leb-true}
 use mathlib.Core.Path.{refl, sym, _∙_}
 use Rattle.text.specs.Bytes.{bytes}
-use Rattle.advice.specs.Fill.{roomOf}
+use Rattle.template.specs.Fill.{roomOf}
 use Rattle.advice.proofs.Saying.{explained}
 use Rattle.advice.proofs.explain.Statement.{statement}
 use Rattle.advice.proofs.explain.Tie as tie
