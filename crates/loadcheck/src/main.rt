@@ -1,9 +1,13 @@
 // The loading check as a program. Standard input is an image of 4,096 bytes, and behind it the length of the code in decimal
 // digits; what is no such number counts as the length 0, which is refused.
+ghost use mathlib.Core.Path.{_≡_};
+ghost use Rattle.loadcheck.specs.Length.{lengthFrom};
 use loading::check;
 
 // The number in a text of digits, up to a line feed. A number that no code can have need not be told from others.
-fn number_in(text: &[u8]) -> u64 {
+fn number_in(text: &[u8]) -> u64
+    ensures { λ r. ⌜ r ≡ lengthFrom 0 (now (text .entry)) ⌝ }
+{
     let mut n: u64 = 0;
     let mut i: usize = 0;
     while i < text.len() {

@@ -1,18 +1,12 @@
 -- One step of the definitions of a line, at the byte that stands at a place: by their own tests.
 -- Assumes nothing.
-use Prim.Native.Nat.{ℕ, zero, suc, _+_, _*_, _<_, _≤_}
+use Prim.Native.Nat.{ℕ, suc, _+_, _*_, _<_, _≤_}
 use mathlib.Core.Path.{_≡_}
-use mathlib.Core.List.{List, [], _∷_}
-use native.Mathlib.Omega.{arith}
+use mathlib.Core.List.{List}
 use borrow.Author.Tests.{lt-ltb, le-ltb, le-leb, lt-leb, eq-eqb, ne-eqb}
-use lib.ListN.{length, drop, getD}
-use lib.Seq.{drop-nil, drop-cons}
-use Rattle.parser.specs.Lines.{Line, number, none, Digits, digitValue, numberIn, keyedIn}
-
-pub behind : (s : List ℕ) (i : ℕ) → length s ≤ i → drop i s ≡ []
-behind [] i h = drop-nil i
-behind (x ∷ xs) zero h = absurd (omega arith)
-behind (x ∷ xs) (suc i) h = behind xs i (omega arith)
+use lib.ListN.{length, drop, getD, drop-of-length-le}
+use lib.Seq.{drop-cons}
+use Rattle.parser.specs.Lines.{number, none, Digits, digitValue, numberIn, keyedIn}
 
 module _ (f : Digits) (n k : ℕ) (s : List ℕ) (i : ℕ) (inside : i < length s) where
   pub too-few : getD s i 0 ≡ 10 → k < f .least → numberIn f n k (drop i s) ≡ none
@@ -46,12 +40,12 @@ module _ (f : Digits) (n k : ℕ) (s : List ℕ) (i : ℕ) (inside : i < length 
 module _ (f : Digits) (key s : List ℕ) (i j : ℕ) where
   pub key-read : length key ≤ i → keyedIn f (drop i key) (drop j s) ≡ numberIn f 0 0 (drop j s)
   unfolding keyedIn
-  key-read h = rw (behind key i h)
+  key-read h = rw (drop-of-length-le key h)
 
   module _ (more : i < length key) where
     pub key-cut : length s ≤ j → keyedIn f (drop i key) (drop j s) ≡ none
     unfolding keyedIn
-    key-cut h = rw (drop-cons key i 0 more, behind s j h)
+    key-cut h = rw (drop-cons key i 0 more, drop-of-length-le s h)
 
     module _ (inside : j < length s) where
       pub key-other : (getD s j 0 ≡ getD key i 0 → ⊥) → keyedIn f (drop i key) (drop j s) ≡ none

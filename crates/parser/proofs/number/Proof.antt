@@ -6,9 +6,9 @@ use mathlib.Core.Path.{_≡_, refl, sym, ap, _∙_}
 use native.Mathlib.Nat.{mul-le-mul}
 use native.Mathlib.Numerals.{add-one}
 use native.Mathlib.Omega.{arith}
-use lib.ListN.{length, drop}
+use lib.ListN.{length, drop, drop-of-length-le}
 use Rattle.parser.specs.Lines.{digits, numberIn}
-use Rattle.parser.proofs.Steps.{behind, too-few, whole, no-digit, too-many, too-large, next}
+use Rattle.parser.proofs.Steps.{too-few, whole, no-digit, too-many, too-large, next}
 use Rattle.parser.proofs.number.Statement.{statement}
 use Rattle.parser.proofs.number.Tie as tie
 
@@ -131,7 +131,7 @@ loop-again c =
 
 returns-6 : tie.Need-returns-6 Inv-loop μ-loop
 unfolding numberIn
-returns-6 c = sym (ap (numberIn _ _ _) (behind _ _ (c .loop-test .left))) ∙ c .before .loop .inv .1
+returns-6 c = sym (ap (numberIn _ _ _) (drop-of-length-le _ (c .loop-test .left))) ∙ c .before .loop .inv .1
 
 pub number-spec : {M : Type 1} → statement M
 number-spec =

@@ -3,9 +3,9 @@
 use borrow.Author.Needs.{needs}
 use Prim.Native.Nat.{ℕ}
 use lib.Seq.{drop-cons}
+use lib.ListN.{drop-of-length-le}
 use Rattle.text.specs.Bytes.{bytes}
 use Rattle.parser.specs.Readings.{cardOf}
-use Rattle.parser.proofs.Steps.{behind}
 use Rattle.parser.proofs.rest_of_card.Statement.{statement}
 use Rattle.parser.proofs.rest_of_card.Tie as tie
 
@@ -53,7 +53,7 @@ returns-6 c =
     let remain = acc .before .before .before .before .before in
     let flags = remain .before .before .before .before .before in
     let pc = flags .before .before .before .before .before in
-    rw (← pc .before .before .hex-line .ensures, pc .pc .given .1, ← flags .before .before .hex-line2 .ensures, flags .fifth .given .1, ← remain .before .before .hex-line3 .ensures, remain .sixth .given .1, ← acc .before .before .hex-line4 .ensures, acc .end .given .1, behind _ _ (c .if1 .left))
+    rw (← pc .before .before .hex-line .ensures, pc .pc .given .1, ← flags .before .before .hex-line2 .ensures, flags .fifth .given .1, ← remain .before .before .hex-line3 .ensures, remain .sixth .given .1, ← acc .before .before .hex-line4 .ensures, acc .end .given .1, drop-of-length-le _ (c .if1 .left))
 
 pub rest-of-card-spec : {M : Type 1} → statement M
 rest-of-card-spec =

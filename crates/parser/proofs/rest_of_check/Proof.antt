@@ -3,9 +3,9 @@
 use borrow.Author.Needs.{needs}
 use Prim.Native.Nat.{ℕ}
 use lib.Seq.{drop-cons}
+use lib.ListN.{drop-of-length-le}
 use Rattle.text.specs.Bytes.{bytes}
 use Rattle.parser.specs.Readings.{checkOf}
-use Rattle.parser.proofs.Steps.{behind}
 use Rattle.parser.proofs.rest_of_check.Statement.{statement}
 use Rattle.parser.proofs.rest_of_check.Tie as tie
 
@@ -23,7 +23,7 @@ returns-3 : tie.Need-returns-3
 unfolding checkOf bytes
 returns-3 c =
     let found = c .before .before in
-    rw (← found .before .before .hex-line .ensures, found .address .given .1, behind _ _ (c .if1 .left))
+    rw (← found .before .before .hex-line .ensures, found .address .given .1, drop-of-length-le _ (c .if1 .left))
 
 pub rest-of-check-spec : {M : Type 1} → statement M
 rest-of-check-spec =
