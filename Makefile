@@ -3,6 +3,8 @@ CFLAGS = -std=c11 -O2 -Wall -Wextra -Werror -Iinclude -Ibench
 ARCHIVE = target/staticlib/libkiosk.a
 IMAGE = examples/card.words
 TABLE = docs/vectors/base.csv
+# What the archive is made of; a change makes it anew.
+SOURCES = crates.txt $(shell find crates -name '*.rt' -o -name '*.antt')
 DIFFERENTIAL = $(wildcard tests/differential/*.c) bench/interpreter.c
 
 .PHONY: help run loadcheck explain rows table kiosk test tests programs differential loading bench instructions check
@@ -58,9 +60,10 @@ instructions: target/bench ## count the instructions of a step, with valgrind
 check: ## prove what has changed, and run the programs
 	@rt check
 
-$(ARCHIVE):
+$(ARCHIVE): $(SOURCES)
 	@echo "building $@: about a minute, and in a fresh clone about five, with a line for each crate" >&2
 	@tools/prove staticlib kiosk
+	@touch $@
 
 # The archive's code is position independent; -z text makes the linker refuse any that is not.
 target/libgpu.so: $(ARCHIVE)
