@@ -13,7 +13,7 @@ use isa::Decoded;
 use values::Computed;
 use values::Flags;
 
-pub struct Digest {
+pub(crate) struct Digest {
     pub count: u32,
     pub sum: u32,
 }
@@ -153,7 +153,7 @@ fn step(kind: u32, n: u32, d: Digest) -> Digest {
 }
 
 // The digest of the first total vectors of a kind: a family of opcodes, 10 the conditions, 11 the words.
-pub fn run(kind: u32, total: u32) -> Digest {
+pub(crate) fn run(kind: u32, total: u32) -> Digest {
     let mut d = Digest { count: 0, sum: 1 };
     let mut n = 0;
     while n < total {

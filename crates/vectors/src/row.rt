@@ -39,7 +39,7 @@ fn show(e: Effect) {
     }
 }
 
-pub fn row(name: &[u8], word: u32, s: u32, d: u32, mode: u32) {
+pub(crate) fn row(name: &[u8], word: u32, s: u32, d: u32, mode: u32) {
     let x = Operands {
         s: s,
         d: d,

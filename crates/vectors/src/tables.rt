@@ -105,15 +105,15 @@ const EDGES: [u32; 32] = [
     0xFFFFFFFF,
 ];
 
-pub fn family(op: u32) -> u32 {
+pub(crate) fn family(op: u32) -> u32 {
     FAMILY[(op % 64) as usize]
 }
 
-pub fn edge(i: u32) -> u32 {
+pub(crate) fn edge(i: u32) -> u32 {
     EDGES[(i % 32) as usize]
 }
 
 // The edge values, as a bank of registers.
-pub fn edges() -> [u32; 32] {
+pub(crate) fn edges() -> [u32; 32] {
     EDGES
 }
