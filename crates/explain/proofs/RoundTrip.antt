@@ -20,7 +20,7 @@ use Rattle.advice.specs.Explanation.{said, explanationOf}
 use Rattle.template.specs.Fill.{filled}
 use Rattle.sentences.specs.Table.{runText}
 use Rattle.parser.specs.declared.Reading.the-variants.{Card as Read, Check}
-use Rattle.parser.specs.Lines.{Line, number, none, Digits, decimal, hexadecimal, digitValue, numberIn, keyedIn}
+use Rattle.scanner.specs.Lines.{Line, number, none, Digits, decimal, hexadecimal, digitValue, numberIn, keyedIn}
 use Rattle.parser.specs.Readings.{checkOf, cardOf, readingOf}
 
 -- A digit counts what it was written for.

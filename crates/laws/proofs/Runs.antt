@@ -12,7 +12,7 @@ use Rattle.cpu.specs.Step.{View, Outcome, advanceOf}
 use Rattle.laws.proofs.Lengths.{Lengths, advanced}
 use Rattle.laws.proofs.Widths.{Widths}
 use Rattle.laws.proofs.Widths as W
-use Rattle.machine.specs.Run.{Runs, runsOf, cut}
+use Rattle.cycle.specs.Runs.{Runs, runsOf, cut}
 
 module _ (P : Processor) where
   -- what every instruction keeps, every run keeps

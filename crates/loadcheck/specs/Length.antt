@@ -1,12 +1,13 @@
 -- The length of the code, as the program reads it behind the image.
-use Prim.Native.Nat.{ℕ, _+_, _-_, _*_}
-use mathlib.Core.Bool.{cond}
-use mathlib.Core.List.{List, [], _∷_}
-use lib.Dec.{eqb, ltb}
+use Prim.Native.Nat.{ℕ}
+use mathlib.Core.List.{List}
+use Rattle.scanner.specs.Lines.{Line, number, none, decimal, numberIn}
 
--- Decimal digits up to a line feed or the end, where n was read so far. What has another byte, or is far too large, is 0,
--- which no code can have.
-unfoldable pub lengthFrom : ℕ → List ℕ → ℕ
-lengthFrom n [] = n
-lengthFrom n (c ∷ cs) =
-    cond (eqb c 10) n (cond (ltb c 48) 0 (cond (ltb 57 c) 0 (cond (ltb 100000 n) 0 (lengthFrom (n * 10 + (c - 48)) cs))))
+-- "code length not 4 to 4,096 […]" is refused: what is no number counts as 0, which no code can have.
+abbrev pub lengthIn : Line → ℕ
+lengthIn (number n rest) = n
+lengthIn none = 0
+
+-- Decimal digits up to a line feed.
+abbrev pub lengthOf : List ℕ → ℕ
+lengthOf text = lengthIn (numberIn decimal 0 0 text)

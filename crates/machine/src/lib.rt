@@ -1,16 +1,11 @@
 // The machine: its whole state, by value, a step, and a run of instructions one after another up to a budget.
 ghost use mathlib.Core.Path.{_≡_};
 ghost use Rattle.memory.specs.Processor.{gpu};
-ghost use Prim.Native.Nat.{_+_, _^_, _<_};
-ghost use lib.ListN.{length};
-ghost use Rattle.cpu.specs.Step.{viewFrom, running};
-ghost use Rattle.machine.specs.Run.{leftOf, goneWith, runsOf, ranWith, runOf, stepOf};
-use cpu::advance;
+ghost use Rattle.machine.specs.Run.{ranWith, runOf, stepOf};
 use cpu::registers::settle;
-use state::Activity;
+use cycle::go;
 use state::Core;
 use state::answers::Answer;
-use state::live::Live;
 
 // The whole state: two banks of registers, and the rest.
 pub struct State {
@@ -24,74 +19,6 @@ pub struct Ran {
     pub answer: Answer,
     pub steps: u32,
     pub state: State,
-}
-
-// What the loop gives: the registers stand in the two banks that it was lent.
-struct Gone {
-    answer: Answer,
-    steps: u32,
-    core: Core,
-}
-
-// The end of a run at an instruction that stopped the machine, or that was not completed.
-fn left(answer: Answer, k: Live, n: u32) -> Gone
-    requires { ⌜ n + 1 < 2 ^ 32 ⌝ }
-    ensures { λ r. ⌜ r ≡ leftOf answer k n ⌝ }
-{
-    if answer.number() == 1 {
-        Gone {
-            answer: Answer::Stopped,
-            steps: n + 1,
-            core: k.core(Activity::Stopped),
-        }
-    } else {
-        Gone {
-            answer: answer,
-            steps: n,
-            core: k.core(Activity::Running),
-        }
-    }
-}
-
-// Instructions one after another, from the active bank and the other one; these change places only by a store to the flag
-// register. The machine runs, and the loop is left when it stops.
-fn cycle(a: &mut [u32; 32], o: &mut [u32; 32], from: Live, ram: &mut [u8], budget: u32) -> Gone
-    requires { ⌜ length (now ram) ≡ 4096 ⌝ }
-    ensures { λ r. ⌜ goneWith r (now (a .exit)) (now (o .exit)) (now (ram .exit)) ≡ runsOf gpu budget 0 (now (ram .entry)) (viewFrom (now (a .entry)) (now (o .entry)) (running from)) ⌝ }
-{
-    let mut k = from;
-    // What is left of the budget: one number counts the steps and ends the loop.
-    let mut rest = budget;
-    while rest != 0 {
-        let m = advance(a, o, k, ram);
-        let after = m.live;
-        let answer = m.answer;
-        if !answer.completed() {
-            return left(answer, after, budget - rest);
-        }
-        k = after;
-        rest -= 1;
-    }
-    Gone {
-        answer: Answer::Running,
-        steps: budget,
-        core: k.core(Activity::Running),
-    }
-}
-
-fn go(a: &mut [u32; 32], o: &mut [u32; 32], from: Core, ram: &mut [u8], budget: u32) -> Gone
-    requires { ⌜ length (now ram) ≡ 4096 ⌝ }
-    ensures { λ r. ⌜ goneWith r (now (a .exit)) (now (o .exit)) (now (ram .exit)) ≡ runsOf gpu budget 0 (now (ram .entry)) (viewFrom (now (a .entry)) (now (o .entry)) from) ⌝ }
-{
-    let activity = from.activity;
-    match activity {
-        Activity::Stopped => Gone {
-            answer: Answer::Stopped,
-            steps: 0,
-            core: from,
-        },
-        Activity::Running => cycle(a, o, from.live(), ram, budget),
-    }
 }
 
 // A run of at most budget instructions. A refused run changes nothing.

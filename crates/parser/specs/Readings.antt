@@ -3,7 +3,7 @@ use Prim.Native.Nat.{ℕ}
 use mathlib.Core.List.{List, [], _∷_}
 use Rattle.parser.specs.declared.Reading.{Reading}
 use Rattle.parser.specs.declared.Reading.the-variants.{Card, Check, Damaged, NotACard}
-use Rattle.parser.specs.Lines.{Line, number, none, decimal, hexadecimal, lineOf}
+use Rattle.scanner.specs.Lines.{Line, number, none, decimal, hexadecimal, lineOf}
 
 -- Goes on with a line's number and the text behind the line, or, where there is no such line, answers the reading given.
 abbrev pub from : Line → Reading → (ℕ → List ℕ → Reading) → Reading

@@ -21,8 +21,9 @@ use Rattle.laws.proofs.Lengths as lengths
 use Rattle.laws.proofs.Widths.{Below, PendingFits, CoreFits, Widths}
 use Rattle.laws.proofs.Widths as widths
 use Rattle.machine.specs.declared.State.{State}
-use Rattle.machine.specs.Run.{budgetLimit, restOf, Runs, runsOf, viewOf, stateOf, resultOf, runOf, stepOf}
-use Rattle.machine.proofs.Runs.{stopped}
+use Rattle.cycle.specs.Runs.{restOf, Runs, runsOf}
+use Rattle.cycle.proofs.Runs.{stopped}
+use Rattle.machine.specs.Run.{budgetLimit, viewOf, stateOf, resultOf, runOf, stepOf}
 use Rattle.rules.specs.declared.Verdict.the-variants.{Admitted}
 use Rattle.rules.specs.Check.{checkOf}
 use Rattle.rules.specs.declared.Item.the-variants.{Unbuilt}

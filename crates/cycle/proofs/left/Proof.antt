@@ -3,8 +3,8 @@
 use borrow.Author.Needs.{needs}
 use borrow.Author.Tests.{eq-eqb, ne-eqb}
 use mathlib.Core.Path.{_∙_, sym}
-use Rattle.machine.proofs.left.Statement.{statement}
-use Rattle.machine.proofs.left.Tie as tie
+use Rattle.cycle.proofs.left.Statement.{statement}
+use Rattle.cycle.proofs.left.Tie as tie
 
 returns : tie.Need-returns
 returns c =

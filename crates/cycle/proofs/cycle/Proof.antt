@@ -8,10 +8,10 @@ use Prim.Native.Nat.{_+_, _-_, _≤_}
 use lib.ListN.{length}
 use Rattle.memory.specs.Processor.{gpu}
 use Rattle.cpu.specs.Step.{viewFrom, running}
-use Rattle.machine.specs.Run.{runsOf}
-use Rattle.machine.proofs.Runs.{spent, continues, leaves}
-use Rattle.machine.proofs.cycle.Statement.{statement}
-use Rattle.machine.proofs.cycle.Tie as tie
+use Rattle.cycle.specs.Runs.{runsOf}
+use Rattle.cycle.proofs.Runs.{spent, continues, leaves}
+use Rattle.cycle.proofs.cycle.Statement.{statement}
+use Rattle.cycle.proofs.cycle.Tie as tie
 
 abbrev Inv-loop : tie.InvT-loop
 Inv-loop a₀ o₀ ram₀ budget k₀ rest₀ a o ram k rest =

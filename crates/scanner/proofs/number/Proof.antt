@@ -7,10 +7,10 @@ use native.Mathlib.Nat.{mul-le-mul}
 use native.Mathlib.Numerals.{add-one}
 use native.Mathlib.Omega.{arith}
 use lib.ListN.{length, drop, drop-of-length-le}
-use Rattle.parser.specs.Lines.{digits, numberIn}
-use Rattle.parser.proofs.Steps.{too-few, whole, no-digit, too-many, too-large, next}
-use Rattle.parser.proofs.number.Statement.{statement}
-use Rattle.parser.proofs.number.Tie as tie
+use Rattle.scanner.specs.Lines.{digits, numberIn}
+use Rattle.scanner.proofs.Steps.{too-few, whole, no-digit, too-many, too-large, next}
+use Rattle.scanner.proofs.number.Statement.{statement}
+use Rattle.scanner.proofs.number.Tie as tie
 
 abbrev Inv-loop : tie.InvT-loop
 Inv-loop s at base least most n₀ count₀ i₀ n count i =

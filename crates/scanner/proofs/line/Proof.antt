@@ -5,10 +5,10 @@ use mathlib.Core.Path.{_≡_, refl, sym, _∙_}
 use native.Mathlib.Numerals.{add-one}
 use native.Mathlib.Omega.{arith}
 use lib.ListN.{length, drop}
-use Rattle.parser.specs.Lines.{digits, keyedIn}
-use Rattle.parser.proofs.Steps.{key-read, key-cut, key-other, key-next}
-use Rattle.parser.proofs.line.Statement.{statement}
-use Rattle.parser.proofs.line.Tie as tie
+use Rattle.scanner.specs.Lines.{digits, keyedIn}
+use Rattle.scanner.proofs.Steps.{key-read, key-cut, key-other, key-next}
+use Rattle.scanner.proofs.line.Statement.{statement}
+use Rattle.scanner.proofs.line.Tie as tie
 
 abbrev Inv-loop : tie.InvT-loop
 Inv-loop s at key base least most next₀ i₀ next i =

@@ -6,10 +6,10 @@ use denote.Ref.{now}
 use Rattle.memory.specs.Processor.{gpu}
 use Rattle.state.specs.State.{coreOf}
 use Rattle.cpu.specs.Step.{viewFrom}
-use Rattle.machine.specs.Run.{runsOf}
-use Rattle.machine.proofs.Runs.{stopped}
-use Rattle.machine.proofs.go.Statement.{statement}
-use Rattle.machine.proofs.go.Tie as tie
+use Rattle.cycle.specs.Runs.{runsOf}
+use Rattle.cycle.proofs.Runs.{stopped}
+use Rattle.cycle.proofs.go.Statement.{statement}
+use Rattle.cycle.proofs.go.Tie as tie
 
 returns : tie.Need-returns
 returns c =

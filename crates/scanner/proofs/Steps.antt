@@ -6,7 +6,7 @@ use mathlib.Core.List.{List}
 use borrow.Author.Tests.{lt-ltb, le-ltb, le-leb, lt-leb, eq-eqb, ne-eqb}
 use lib.ListN.{length, drop, getD, drop-of-length-le}
 use lib.Seq.{drop-cons}
-use Rattle.parser.specs.Lines.{number, none, Digits, digitValue, numberIn, keyedIn}
+use Rattle.scanner.specs.Lines.{number, none, Digits, digitValue, numberIn, keyedIn}
 
 module _ (f : Digits) (n k : ℕ) (s : List ℕ) (i : ℕ) (inside : i < length s) where
   pub too-few : getD s i 0 ≡ 10 → k < f .least → numberIn f n k (drop i s) ≡ none

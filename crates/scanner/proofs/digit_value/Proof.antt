@@ -2,8 +2,8 @@
 -- Assumes nothing.
 use borrow.Author.Needs.{needs}
 use borrow.Author.Tests.{lt-ltb, le-ltb}
-use Rattle.parser.proofs.digit_value.Statement.{statement}
-use Rattle.parser.proofs.digit_value.Tie as tie
+use Rattle.scanner.proofs.digit_value.Statement.{statement}
+use Rattle.scanner.proofs.digit_value.Tie as tie
 
 returns : tie.Need-returns
 returns c = simp (lt-ltb _ _ (c .if1 .taken))

@@ -1,0 +1,16 @@
+-- `length_in` meets its contract, by what the parser found.
+-- Assumes nothing.
+use borrow.Author.Needs.{needs}
+use Rattle.loadcheck.proofs.length_in.Statement.{statement}
+use Rattle.loadcheck.proofs.length_in.Tie as tie
+
+returns : tie.Need-returns
+returns c = rw (← c .before .before .first-number .ensures, c .enum-told .given .1)
+
+returns-2 : tie.Need-returns-2
+returns-2 c = rw (← c .before .before .before .first-number .ensures, c .before .n .given .1)
+
+pub length-in-spec : {M : Type 1} → statement M
+length-in-spec =
+    tie.close
+    (tie.spec (λ c κs. search needs) (λ c. search needs) (λ c. search needs) returns (λ c. search needs) returns-2)
