@@ -165,7 +165,11 @@ class Test:
             self.hold_check(image[:length], b"16\n", (31, 0))
         for length in (b"0", b"2", b"3", b"6", b"4097", b"4100\n", b"99999999999999999999", b"-4", b"four", b""):
             self.hold_check(image, length, (33, 0))
-        self.hold_check(image, b"4\n", (0, 0))
+        # What is no number of at most ten digits and 32 bits counts as 0.
+        for length in (b" 4", b"4 \n", b"+4", b"4\r\n", b"4:", b"A", b"\n4", b"00000000004", b"4294967300", b"0" * 15 + b"40"):
+            self.hold_check(image, length, (33, 0))
+        for length in (b"4", b"4\n", b"0000000004", b"4\n\n", b"4\nwhat stands behind the line is not read"):
+            self.hold_check(image, length, (0, 0))
 
     def damaged(self):
         """Any other text gets its sentences too."""
