@@ -1,3 +1,2 @@
 pub mod Add
 pub mod Logic
-pub mod Jump

@@ -4,7 +4,7 @@ use mathlib.Core.Bool.{Bool, cond}
 use mathlib.Core.List.{List}
 use lib.Dec.{eqb}
 use lib.ListN.{length, getD, set}
-use Rattle.alu.specs.Jump.{takenOf}
+use Rattle.branch.specs.Jump.{takenOf}
 use Rattle.isa.specs.Words.{decodeOf}
 use Rattle.values.specs.Results.{flagsOf}
 use Rattle.effect.specs.Effects.{effectIn}

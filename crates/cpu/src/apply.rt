@@ -8,7 +8,7 @@ ghost use Rattle.cpu.specs.Step.{movedWith, changeOf, running, doneOf, j
 use crate::registers::get;
 use crate::registers::put;
 use crate::registers::settle;
-use alu::jump::taken;
+use branch::taken;
 use effect::Effect;
 use memory::Immediate;
 use memory::Place;

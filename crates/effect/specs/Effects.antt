@@ -12,7 +12,7 @@ use Rattle.field.specs.Fields.{quickOf, signedFieldOf}
 use Rattle.values.specs.declared.Flags.{Flags}
 use Rattle.alu.specs.Add.{addOf, addcOf, subOf, subcOf, negOf, absOf, cmpOf, cmpqOf}
 use Rattle.alu.specs.Logic.{andOf, orOf, xorOf, notOf, btstOf, bsetOf, bclrOf}
-use Rattle.alu.specs.Jump.{jrTargetOf}
+use Rattle.branch.specs.Jump.{jrTargetOf}
 use Rattle.multiplier.specs.Multiply.{multOf, imultOf, imacnOf}
 use Rattle.multiplier.specs.Divide.{divOf}
 use Rattle.shifter.specs.Shift.{leftOf, rightOf, rightSignedOf, shOf, shaOf, rotateOf}

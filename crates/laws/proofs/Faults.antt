@@ -8,7 +8,7 @@ use mathlib.Core.List.{List}
 use lib.Dec.{eqb}
 use lib.ListN.{length}
 use Rattle.isa.specs.Words.{decodeOf}
-use Rattle.alu.specs.Jump.{takenOf}
+use Rattle.branch.specs.Jump.{takenOf}
 use Rattle.state.specs.State.{movedOf}
 use Rattle.memory.specs.Processor.{Processor}
 use Rattle.memory.specs.Memory.{immediateOf, placeOf, fetchOf}

@@ -7,7 +7,7 @@ use mathlib.Core.List.{List, [], _∷_}
 use native.Mathlib.Omega.{arith}
 use lib.Dec.{eqb, ltb}
 use lib.ListN.{length, getD, set}
-use Rattle.alu.specs.Jump.{takenOf}
+use Rattle.branch.specs.Jump.{takenOf}
 use Rattle.isa.specs.Words.{decodeOf}
 use Rattle.values.specs.Results.{flagsOf}
 use Rattle.memory.specs.Processor.{Processor}

@@ -15,7 +15,8 @@ use Rattle.rules.specs.Reading.{Hit, clear, hit, found}
 use Rattle.rules.proofs.Booleans.{no-way, by}
 use Rattle.rules.specs.Check.{first, firstAccess, orElse, rulesOf}
 use Rattle.passes.proofs.Least.{found-out}
-use Rattle.passes.specs.Passes.{Lowest, hitAt, testOf}
+use Rattle.reading.specs.Places.{hitAt}
+use Rattle.passes.specs.Passes.{Lowest, testOf}
 use Rattle.loading.specs.Told.{toldOf}
 
 module _ (code : List ℕ) (r : ℕ) (h : Hit) (e : hitAt code r ≡ h) where

@@ -6,7 +6,7 @@ ghost use Rattle.memory.specs.Processor.{gpu};
 ghost use Rattle.rules.specs.Check.{isLength, rulesOf, checkOf};
 ghost use Rattle.rules.specs.Safety.{Demand3};
 ghost use Rattle.loading.specs.Told.{toldOf};
-use passes::first_access;
+use accesses::first_access;
 use passes::first_broken;
 use passes::lowest_broken;
 use reading::mark_code;

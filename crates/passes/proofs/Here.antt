@@ -1,8 +1,8 @@
--- The rules at an offset of the code, told by what stands there.
+-- Rules 1 to 5 at an offset of the code, told by what stands there.
 -- Assumes nothing.
 use Prim.Native.Nat.{ℕ, _+_, _-_}
 use mathlib.Core.Path.{_≡_, sym, _∙_}
-use mathlib.Core.Bool.{not, cond, _&&_, _||_}
+use mathlib.Core.Bool.{not, _&&_, _||_}
 use mathlib.Core.List.{List}
 use native.Mathlib.Omega.{arith}
 use borrow.Author.Tests.{eq-eqb, ne-eqb, lt-ltb, le-ltb, le-leb, lt-leb, eqb-true, eqb-false, ltb-true, ltb-false, leb-true, leb-false}
@@ -10,14 +10,12 @@ use lib.Dec.{eqb, ltb, leb}
 use lib.ListN.{length}
 use Rattle.memory.specs.Processor.{gpu}
 use Rattle.rules.specs.declared.Item.{Item}
-use Rattle.rules.specs.declared.Range.{Range}
 use Rattle.rules.specs.declared.Shape.{Shape}
-use Rattle.rules.specs.Reading.{itemOf, itemAt, shapeOf, bytesOf}
-use Rattle.rules.specs.Known.{unknown, transferOf}
-use Rattle.rules.specs.Check.{isBuilt, jumps, breaksSlot, always, isTarget, learn, ok1, ok2, ok3, ok4, ok5, jrOk, jumpOk}
+use Rattle.rules.specs.Reading.{itemOf, shapeOf, bytesOf}
+use Rattle.rules.specs.Check.{isBuilt, jumps, breaksSlot, always, isTarget, ok1, ok2, ok3, ok4, ok5, jrOk, jumpOk}
 use Rattle.rules.proofs.Booleans.{by}
-use Rattle.passes.specs.Passes.{Here}
-use Rattle.reading.proofs.Offsets.{item-at}
+use Rattle.reading.specs.Places.{Here}
+use Rattle.reading.proofs.Offsets.{item-at, item-here}
 
 -- A test of two offsets is that of their addresses.
 pub leb-base : (a b : ℕ) → leb (0xF03000 + a) (0xF03000 + b) ≡ leb a b
@@ -39,9 +37,6 @@ eqb-base a b =
     (λ t. ne-eqb (0xF03000 + a) (0xF03000 + b) (λ e. eqb-false a b t (omega arith)) ∙ sym t)
 
 module _ {code : List ℕ} {i : ℕ} {t : Item} (h : Here code i t) where
-  pub item-here : itemAt gpu code (0xF03000 + i) ≡ t
-  item-here = item-at code i ∙ sym (h .same)
-
   -- where the shape there was told to be s
   module _ {s : Shape} (told : s ≡ shapeOf t) (p : Item) where
     -- and to have n bytes
@@ -51,29 +46,22 @@ module _ {code : List ℕ} {i : ℕ} {t : Item} (h : Here code i t) where
 
       pub ok1-here : ok1 gpu code (0xF03000 + i) p ≡ (isBuilt t && leb (i + n) (length code))
       unfolding ok1
-      ok1-here = rw (item-here, ← told, ← e, sums, leb-base)
+      ok1-here = rw (item-here h, ← told, ← e, sums, leb-base)
 
       pub ok4-here : ok4 gpu code (0xF03000 + i) p ≡ (not (jumps s) || (ltb (i + n) (length code) && not (breaksSlot (shapeOf (itemOf code (i + n))))))
       unfolding ok4
-      ok4-here = rw (item-here, ← told, ← e, sums, ltb-base, item-at)
+      ok4-here = rw (item-here h, ← told, ← e, sums, ltb-base, item-at)
 
       pub ok5-here : ok5 gpu code (0xF03000 + i) p ≡ (not (eqb (i + n) (length code)) || (always (shapeOf p) && not (isTarget gpu code (0xF03000 + i))))
       unfolding ok5
-      ok5-here = rw (item-here, ← told, ← e, sums, eqb-base)
+      ok5-here = rw (item-here h, ← told, ← e, sums, eqb-base)
 
     -- and to be u
     module _ {u : Shape} (e : s ≡ u) where
       pub ok2-here : jrOk gpu code (0xF03000 + i) u ≡ ok2 gpu code (0xF03000 + i) p
       unfolding ok2
-      ok2-here = rw (item-here, ← told, e)
+      ok2-here = rw (item-here h, ← told, e)
 
       pub ok3-here : jumpOk gpu code (0xF03000 + i) (shapeOf p) u ≡ ok3 gpu code (0xF03000 + i) p
       unfolding ok3
-      ok3-here = rw (item-here, ← told, e)
-
-  pub learn-here : (n : ℕ) → n ≡ i + bytesOf (shapeOf t) → (k : List Range)
-      → learn gpu code (0xF03000 + i) k ≡ cond (isTarget gpu code (0xF03000 + n)) unknown (transferOf gpu t k)
-  unfolding learn
-  learn-here n e k =
-      let sums : 0xF03000 + i + bytesOf (shapeOf t) ≡ 0xF03000 + n = omega arith in
-      rw (item-here, sums)
+      ok3-here = rw (item-here h, ← told, e)

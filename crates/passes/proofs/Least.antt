@@ -15,8 +15,9 @@ use Rattle.rules.specs.Reading.{itemOf, shapeOf, bytesOf, found}
 use Rattle.rules.specs.Check.{before, first}
 use Rattle.rules.proofs.Booleans.{by}
 use Rattle.reading.proofs.Offsets.{item-at}
-use Rattle.passes.specs.Passes.{Lowest, testOf, hitAt}
-use Rattle.passes.proofs.Came.{Came, came-first, came-on, came-hit, came-past}
+use Rattle.reading.specs.Places.{hitAt}
+use Rattle.passes.specs.Passes.{Lowest, testOf}
+use Rattle.reading.proofs.Came.{Came, came-first, came-on, came-hit, came-past}
 
 found-in : (code : List ℕ) (i : ℕ) → i < length code → found (hitAt code i) ≡ true
 unfolding hitAt

@@ -1,4 +1,2 @@
-pub mod Came
 pub mod Least
 pub mod Here
-pub mod Turn

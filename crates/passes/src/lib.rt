@@ -1,8 +1,6 @@
-// The passes of the loading check over the code: each reads it straight through.
-mod access;
+// Rules 1 to 5 over the whole code, read straight through.
 mod broken;
 mod tests;
 
-pub use access::first_access;
 pub use broken::first_broken;
 pub use broken::lowest_broken;

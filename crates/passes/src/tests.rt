@@ -2,13 +2,15 @@
 ghost use mathlib.Core.Path.{_≡_};
 ghost use Prim.Native.Nat.{_+_, _<_};
 ghost use Rattle.memory.specs.Processor.{gpu};
-ghost use Rattle.rules.specs.Check.{jumps, breaksSlot, always, holds, isStart, isTarget, ok1, ok2, ok3, ok4, ok5};
+ghost use Rattle.rules.specs.Check.{jumps, breaksSlot, always, holds, isStart, ok1, ok2, ok3, ok4, ok5};
 ghost use Rattle.rules.specs.Check as check;
 ghost use Rattle.reading.specs.Marks.{MarksStarts, MarksTargets};
-ghost use Rattle.passes.specs.Passes.{Here, testOf};
-use alu::jump::jr_target;
+ghost use Rattle.reading.specs.Places.{Here};
+ghost use Rattle.passes.specs.Passes.{testOf};
+use branch::jr_target;
 use field::signed_field;
 use reading::is_marked;
+use reading::is_target;
 use reading::item_at;
 use reading::shape_of;
 use reading::size;
@@ -80,13 +82,6 @@ fn holds_start(code: &[u8], starts: &[bool; 4104], p: Shape, r: u32) -> bool
         Shape::Load(_) => false,
         Shape::Store(_) => false,
     }
-}
-
-pub fn is_target(code: &[u8], targets: &[bool; 4104], i: usize) -> bool
-    requires { ⌜ (i < 4104) × MarksTargets (now code) (now targets) ⌝ }
-    ensures { λ r. ⌜ r ≡ isTarget gpu (now (code .entry)) (0xF03000 + i) ⌝ }
-{
-    is_marked(targets, 0xF03000 + i as u32)
 }
 
 fn obeys1(code: &[u8], i: usize, p: Item, t: Item) -> bool

@@ -3,11 +3,13 @@
 ghost use mathlib.Core.Path.{_≡_};
 ghost use Prim.Native.Nat.{_+_, _≤_, _<_};
 ghost use lib.ListN.{length};
+ghost use Rattle.memory.specs.Processor.{gpu};
+ghost use Rattle.rules.specs.Check.{isTarget};
 ghost use Rattle.reading.specs.Marks.{markAt, mark, unmarked, MovedInto, Targets, MarksStarts, MarksTargets};
 use crate::items::item_at;
 use crate::items::shape_of;
 use crate::items::size;
-use alu::jump::jr_target;
+use branch::jr_target;
 use field::signed_field;
 use rules::Item;
 use rules::Shape;
@@ -79,4 +81,12 @@ pub fn mark_code(code: &[u8], starts: &mut [bool; 4104], targets: &mut [bool; 41
         i += size(s);
         p = t;
     }
+}
+
+// Whether the instruction at an offset is a target.
+pub fn is_target(code: &[u8], targets: &[bool; 4104], i: usize) -> bool
+    requires { ⌜ (i < 4104) × MarksTargets (now code) (now targets) ⌝ }
+    ensures { λ r. ⌜ r ≡ isTarget gpu (now (code .entry)) (0xF03000 + i) ⌝ }
+{
+    is_marked(targets, 0xF03000 + i as u32)
 }

@@ -14,7 +14,7 @@ use Rattle.field.specs.Fields.{quickOf, signedFieldOf}
 use Rattle.isa.specs.Table.{instructions}
 use Rattle.isa.specs.Words as words
 use Rattle.isa.specs.Words.{among, instructionAt, decodedAt}
-use Rattle.alu.specs.Jump.{jrTargetOf}
+use Rattle.branch.specs.Jump.{jrTargetOf}
 use Rattle.shifter.specs.Shift.{leftOf}
 use Rattle.class.specs.declared.Address.{Address}
 use Rattle.class.specs.declared.Address.the-variants.{At, Offset, Indexed}

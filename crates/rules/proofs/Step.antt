@@ -12,7 +12,7 @@ use borrow.Author.Tests.{eq-eqb, eqb-true}
 use Rattle.field.specs.Fields.{signedFieldOf}
 use Rattle.isa.specs.Words.{decodeOf}
 use Rattle.values.specs.declared.Flags.{Flags}
-use Rattle.alu.specs.Jump.{chosenOf, takenOf, jrTargetOf}
+use Rattle.branch.specs.Jump.{chosenOf, takenOf, jrTargetOf}
 use Rattle.class.specs.declared.Address.{Address}
 use Rattle.class.specs.declared.Address.the-variants.{At, Offset, Indexed}
 use Rattle.class.specs.declared.Class.{Class}

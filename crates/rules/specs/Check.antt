@@ -5,7 +5,7 @@ use mathlib.Core.List.{List}
 use lib.Dec.{eqb, ltb, leb}
 use lib.ListN.{length, take}
 use Rattle.field.specs.Fields.{signedFieldOf}
-use Rattle.alu.specs.Jump.{jrTargetOf}
+use Rattle.branch.specs.Jump.{jrTargetOf}
 use Rattle.memory.specs.Processor.{Processor}
 use Rattle.rules.specs.declared.Range.{Range}
 use Rattle.rules.specs.declared.Verdict.{Verdict}

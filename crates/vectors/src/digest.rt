@@ -2,7 +2,7 @@
 use crate::tables::edge;
 use crate::tables::edges;
 use crate::tables::family;
-use alu::jump::taken;
+use branch::taken;
 use class::Address;
 use class::Class;
 use class::class_of;

@@ -7,7 +7,7 @@ use mir.Syntax.{w32}
 use mir.Facts.{toZ-ofZ}
 use Rattle.isa.specs.Words.{instructionAt, decodedAt}
 use Rattle.alu.specs.Add.{addOf, subOf, cmpqOf}
-use Rattle.alu.specs.Jump.{jrTargetOf}
+use Rattle.branch.specs.Jump.{jrTargetOf}
 use Rattle.shifter.specs.Shift.{leftOf, rightOf, rightSignedOf, rotateOf}
 use Rattle.effect.specs.Effects.{addressOf}
 use Rattle.effect.specs.declared.Effect.the-variants as E

@@ -12,7 +12,7 @@ use Rattle.rules.specs.declared.Item.the-variants.{Unbuilt}
 use Rattle.rules.specs.Reading.{bytesOf}
 use Rattle.rules.specs.Check.{before}
 use Rattle.passes.specs.Passes.{testOf}
-use Rattle.passes.proofs.Came.{Came, came-first, came-on, came-hit, came-past}
+use Rattle.reading.proofs.Came.{Came, came-first, came-on, came-hit, came-past}
 use Rattle.reading.proofs.Offsets.{item-at}
 use Rattle.passes.proofs.broken.first_broken.Statement.{statement}
 use Rattle.passes.proofs.broken.first_broken.Tie as tie

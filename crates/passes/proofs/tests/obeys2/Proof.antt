@@ -6,7 +6,7 @@ use Prim.Native.Nat.{_+_}
 use mir.Syntax.{w32}
 use mir.Facts.{toZ-ofZ}
 use denote.Ref.{now}
-use Rattle.alu.specs.Jump.{jrTargetOf}
+use Rattle.branch.specs.Jump.{jrTargetOf}
 use Rattle.memory.specs.Processor.{gpu}
 use Rattle.rules.specs.Check.{isStart}
 use Rattle.passes.proofs.Here.{ok2-here}

@@ -2,8 +2,8 @@
 -- Assumes nothing.
 use borrow.Author.Needs.{needs}
 use mir.Facts.{toZ-ofZ}
-use Rattle.alu.proofs.jump.jr_target.Statement.{statement}
-use Rattle.alu.proofs.jump.jr_target.Tie as tie
+use Rattle.branch.proofs.jr_target.Statement.{statement}
+use Rattle.branch.proofs.jr_target.Tie as tie
 
 returns : tie.Need-returns
 returns c = rw (c .unsigned .ensures, toZ-ofZ (c .before .fits .offset))

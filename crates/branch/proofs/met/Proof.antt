@@ -1,8 +1,8 @@
--- `chosen` meets its contract.
+-- `met` meets its contract.
 -- Assumes nothing.
 use borrow.Author.Tests.{eq-eqb, ne-eqb}
-use Rattle.alu.proofs.jump.chosen.Statement.{statement}
-use Rattle.alu.proofs.jump.chosen.Tie as tie
+use Rattle.branch.proofs.met.Statement.{statement}
+use Rattle.branch.proofs.met.Tie as tie
 
 returns : tie.Need-returns
 returns c = rw (eq-eqb _ _ (c .if1 .taken))
@@ -10,8 +10,8 @@ returns c = rw (eq-eqb _ _ (c .if1 .taken))
 returns-2 : tie.Need-returns-2
 returns-2 c = rw (ne-eqb _ _ (c .if1 .left))
 
-pub chosen-spec : {M : Type 1} → statement M
-chosen-spec =
+pub met-spec : {M : Type 1} → statement M
+met-spec =
     tie.close
     (tie.spec
     returns

@@ -20,11 +20,12 @@ use Rattle.rules.specs.Check.{learn, ok6}
 use Rattle.ranges.specs.Operands.{forgetsOf, rangeAfter}
 use Rattle.ranges.specs.Ordered.{Ordered, AllOrdered}
 use Rattle.ranges.proofs.Orders.{set-ordered, set-nothing}
-use Rattle.passes.specs.Passes.{Here, longIn}
-use Rattle.passes.proofs.Came.{Came, came-first, came-on, came-hit, came-past}
-use Rattle.passes.proofs.Turn.{range-read, ok6-here, learnt-here}
-use Rattle.passes.proofs.access.first_access.Statement.{statement}
-use Rattle.passes.proofs.access.first_access.Tie as tie
+use Rattle.reading.specs.Places.{Here}
+use Rattle.accesses.specs.Items.{longIn}
+use Rattle.reading.proofs.Came.{Came, came-first, came-on, came-hit, came-past}
+use Rattle.accesses.proofs.Turn.{range-read, ok6-here, learnt-here}
+use Rattle.accesses.proofs.first_access.Statement.{statement}
+use Rattle.accesses.proofs.first_access.Tie as tie
 
 abbrev Inv-loop : tie.InvT-loop
 Inv-loop code targets end i₀ k₀ i k = AllOrdered k × Came code (List Range) unknown (learn gpu code) (ok6 gpu code) i k

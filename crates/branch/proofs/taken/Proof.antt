@@ -5,9 +5,9 @@ use mathlib.Core.Path.{_≡_, refl, sym, _∙_}
 use mathlib.Core.Bool.{Bool, true, false, cond}
 use Prim.Native.Nat.{ℕ}
 use lib.Dec.{eqb}
-use Rattle.alu.specs.Jump.{metOf, takenOf}
-use Rattle.alu.proofs.jump.taken.Statement.{statement}
-use Rattle.alu.proofs.jump.taken.Tie as tie
+use Rattle.branch.specs.Jump.{metOf, takenOf}
+use Rattle.branch.proofs.taken.Statement.{statement}
+use Rattle.branch.proofs.taken.Tie as tie
 
 nothing-asked : (flag : ℕ) → metOf 0 0 flag ≡ true
 nothing-asked flag = go (eqb flag 1)

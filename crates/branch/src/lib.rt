@@ -1,6 +1,6 @@
 // A jump's condition, and the target of a JR.
 ghost use mathlib.Core.Path.{_≡_};
-ghost use Rattle.alu.specs.Jump.{chosenOf, metOf, takenOf, jrTargetOf};
+ghost use Rattle.branch.specs.Jump.{chosenOf, metOf, takenOf, jrTargetOf};
 use values::Flags;
 use values::signed::unsigned;
 

@@ -5,6 +5,7 @@ use mathlib.Core.Path.{_≡_, refl, sym, subst, _∙_, ap}
 use mathlib.Core.Bool.{Bool, cond}
 use mathlib.Core.List.{List}
 use mathlib.Core.Logic.{_⊎_, inl, inr}
+use native.Mathlib.Omega.{arith}
 use lib.ListN.{length, getD, set}
 use Rattle.class.specs.declared.Class.{Class}
 use Rattle.memory.specs.Processor.{gpu}
@@ -19,8 +20,9 @@ use Rattle.ranges.specs.Operands.{operandsOf, rangeAfter, accessOf, forgetsOf}
 use Rattle.ranges.specs.Ordered.{Ordered, AllOrdered}
 use Rattle.ranges.proofs.Orders.{at-register, no-register}
 use Rattle.ranges.proofs.InPlace.{access-in-place, transfer-in-place}
-use Rattle.passes.specs.Passes.{Here, classIn, longIn}
-use Rattle.passes.proofs.Here.{item-here, learn-here}
+use Rattle.reading.specs.Places.{Here}
+use Rattle.reading.proofs.Offsets.{item-here}
+use Rattle.accesses.specs.Items.{classIn, longIn}
 
 -- a range that was read where there is such a register, and is full where there is none
 pub range-read : {k : List Range} → AllOrdered k → {r : ℕ} {x : Range} (d : Range) → ((r < 32) × (x ≡ getD k r d)) ⊎ ((32 ≤ r) × (x ≡ full)) → (x ≡ rangeAt k r) × Ordered x
@@ -35,6 +37,13 @@ transfer-in : (t : Item) (k : List Range) → transferOf gpu t k ≡ transfer gp
 unfolding transferOf
 transfer-in Unbuilt k = refl
 transfer-in (Built c v) k = refl
+
+learn-here : {code : List ℕ} {i : ℕ} {t : Item} → Here code i t → (n : ℕ) → n ≡ i + bytesOf (shapeOf t) → (k : List Range)
+    → learn gpu code (0xF03000 + i) k ≡ cond (isTarget gpu code (0xF03000 + n)) unknown (transferOf gpu t k)
+unfolding learn
+learn-here {i = i} {t = t} h n e k =
+    let sums : 0xF03000 + i + bytesOf (shapeOf t) ≡ 0xF03000 + n = omega arith in
+    rw (item-here h, sums)
 
 module _ {code : List ℕ} {i : ℕ} {t : Item} (h : Here code i t) {k : List Range} (o : AllOrdered k) {c : Class} (e : c ≡ classIn t) {u : Operands}
     (w : u ≡ operandsOf c) {x y : Range} (f : x ≡ rangeAt k (u .left)) (g : y ≡ rangeAt k (u .right)) where

@@ -1,8 +1,8 @@
--- `met` meets its contract.
+-- `chosen` meets its contract.
 -- Assumes nothing.
 use borrow.Author.Tests.{eq-eqb, ne-eqb}
-use Rattle.alu.proofs.jump.met.Statement.{statement}
-use Rattle.alu.proofs.jump.met.Tie as tie
+use Rattle.branch.proofs.chosen.Statement.{statement}
+use Rattle.branch.proofs.chosen.Tie as tie
 
 returns : tie.Need-returns
 returns c = rw (eq-eqb _ _ (c .if1 .taken))
@@ -10,8 +10,8 @@ returns c = rw (eq-eqb _ _ (c .if1 .taken))
 returns-2 : tie.Need-returns-2
 returns-2 c = rw (ne-eqb _ _ (c .if1 .left))
 
-pub met-spec : {M : Type 1} → statement M
-met-spec =
+pub chosen-spec : {M : Type 1} → statement M
+chosen-spec =
     tie.close
     (tie.spec
     returns

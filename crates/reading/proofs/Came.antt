@@ -10,9 +10,9 @@ use borrow.Author.Tests.{lt-ltb, le-ltb}
 use Rattle.memory.specs.Processor.{gpu}
 use Rattle.rules.specs.declared.Item.{Item}
 use Rattle.rules.specs.Reading.{itemOf, shapeOf, bytesOf, firstBad}
 use Rattle.reading.proofs.From.{fromThere, from-first, from-past, from-on, from-hit}
 use Rattle.reading.proofs.Offsets.{after-at}
-use Rattle.passes.specs.Passes.{hitAt}
+use Rattle.reading.specs.Places.{hitAt}
 
 module _ (code : List ℕ) (X : Type 0) (x₀ : X) (flow : ℕ → X → X) (test : ℕ → X → Bool) where
   -- the pass came to the offset i, and carries x
