@@ -1,10 +1,9 @@
 -- One instruction: what it answers, and the state and RAM after it.
 use Prim.Native.Nat.{ℕ, _/_, _%_}
-use mathlib.Core.Bool.{Bool, cond}
+use mathlib.Core.Bool.{cond}
 use mathlib.Core.List.{List}
 use lib.Dec.{eqb}
 use lib.ListN.{length, getD, set}
-use Rattle.branch.specs.Jump.{takenOf}
 use Rattle.isa.specs.Words.{decodeOf}
 use Rattle.values.specs.Results.{flagsOf}
 use Rattle.effect.specs.Effects.{effectIn}
@@ -12,135 +11,22 @@ use Rattle.effect.specs.declared.Effect.{Effect}
 use Rattle.effect.specs.declared.Effect.the-variants as E
 use Rattle.effect.specs.declared.Operands.{Operands}
 use Rattle.memory.specs.Processor.{Processor}
-use Rattle.memory.specs.Memory.{longAt, putLong, fetchOf, immediateOf, placeOf}
+use Rattle.memory.specs.Memory.{fetchOf, placeOf}
 use Rattle.memory.specs.declared.Fetched.{Fetched}
 use Rattle.memory.specs.declared.Fetched.the-variants as F
-use Rattle.memory.specs.declared.Immediate.{Immediate}
-use Rattle.memory.specs.declared.Immediate.the-variants as I
-use Rattle.memory.specs.declared.Place.{Place}
-use Rattle.memory.specs.declared.Place.the-variants as M
 use Rattle.state.specs.declared.Core.{Core}
-use Rattle.state.specs.declared.live.Live.{Live}
-use Rattle.state.specs.declared.Pending.{Pending}
-use Rattle.state.specs.declared.Pending.the-variants.{None, At}
 use Rattle.state.specs.declared.Activity.{Activity}
 use Rattle.state.specs.declared.Activity.the-variants as A
-use Rattle.state.specs.declared.answers.Answer.{Answer}
-use Rattle.state.specs.declared.answers.Answer.the-variants.{Running, Stopped, NotBuilt, BadCounter, Misaligned, Unmapped, JumpPending, RamLength}
-use Rattle.cpu.specs.declared.apply.Moved.{Moved}
-use Rattle.cpu.specs.declared.apply.Loaded.{Loaded}
-use Rattle.cpu.specs.declared.apply.Loaded.the-variants as L
-use Rattle.state.specs.Answers.{numberOf}
-use Rattle.state.specs.State.{coreOf, movedOf, skippedOf, withFlags, withRemainder, withAccumulator, withMode, withControl, withFlagRegister, flagRegisterOf, bankIn}
-
--- The state with the active bank told first.
-pub record View : Type 0 where
-  pub active : List ℕ
-  pub other : List ℕ
-  pub core : Core
-
-abbrev pub viewFrom : List ℕ → List ℕ → Core → View
-viewFrom a o k = record { active = a; other = o; core = k }
-
--- What comes of an instruction.
-pub record Outcome : Type 0 where
-  pub answer : Answer
-  pub view : View
-  pub ram : List ℕ
-
--- The answer of an instruction, and the state after it without its registers.
-pub record Change : Type 0 where
-  pub answer : Answer
-  pub core : Core
-
-abbrev pub outcome : Change → List ℕ → List ℕ → List ℕ → Outcome
-outcome m a o ram = record { answer = m .answer; view = viewFrom a o (m .core); ram = ram }
-
--- What the loop of a run holds, read as the state of a running machine.
-abbrev pub running : Live → Core
-running k = coreOf A.Running k
-
-abbrev pub movedWith : Answer → Live → Moved
-movedWith answer k = record { answer = answer; live = k }
-
--- An instruction's answer in the loop, read as a change: 1 tells that it was completed and stopped the machine.
-unfoldable pub changeOf : Moved → Change
-changeOf m =
-    cond (eqb (numberOf (m .answer)) 1) (record { answer = Running; core = coreOf A.Stopped (m .live) }) (record { answer = m .answer; core = running (m .live) })
-
--- The registers and RAM as they were.
-abbrev pub unwritten : List ℕ → View → Change → Outcome
-unwritten ram v m = outcome m (v .active) (v .other) ram
-
--- A fault: "state and RAM […] before the faulty step".
-abbrev pub stayOf : Answer → Core → Change
-stayOf answer k = record { answer = answer; core = k }
-
--- A completed instruction with nothing pending after it.
-abbrev pub doneOf : Core → Change
-doneOf k = stayOf Running (movedOf k None)
+use Rattle.state.specs.declared.answers.Answer.the-variants.{Stopped, NotBuilt, BadCounter, RamLength}
+use Rattle.state.specs.State.{withFlags, withRemainder, withAccumulator}
+use Rattle.transfers.specs.Transfers.{View, Outcome, outcome, unwritten, stayOf, doneOf, jumpOf, Written, moveImmediateOf, moveCounterOf, loadOf, moveLoadedOf, storeOf}
 
 -- Register d of the active bank becomes n, and the rest k moves on.
 abbrev pub writes : List ℕ → View → ℕ → ℕ → Core → Outcome
 writes ram v d n k = outcome (doneOf k) (set (v .active) (d % 32) n) (v .other) ram
 
--- "A taken jump makes the target pending"; 15 is "JR, JUMP, MOVEI or MOVE PC while a jump is pending".
-abbrev pub jumpOf : Core → Pending → ℕ → ℕ → Change
-jumpOf k (At t) condition target = stayOf JumpPending k
-jumpOf k None condition target =
-    cond (takenOf condition (k .flags)) (stayOf Running (movedOf k (At target))) (doneOf k)
-
--- What an instruction that writes one register of the active bank leaves.
-pub record Written : Type 0 where
-  pub moved : Change
-  pub active : List ℕ
-
-abbrev pub written : Change → List ℕ → Written
-written m a = record { moved = m; active = a }
-
 abbrev pub inActive : Written → View → List ℕ → Outcome
 inActive w v ram = outcome (w .moved) (w .active) (v .other) ram
-
-abbrev pub immediateWritten : List ℕ → Core → ℕ → Immediate → Written
-immediateWritten a k d (I.Long n) = written (stayOf Running (skippedOf k)) (set a (d % 32) n)
-immediateWritten a k d I.Outside = written (stayOf BadCounter k) a
-
-abbrev pub moveImmediateOf : Processor → List ℕ → List ℕ → Core → Pending → ℕ → Written
-moveImmediateOf P ram a k (At t) d = written (stayOf JumpPending k) a
-moveImmediateOf P ram a k None d = immediateWritten a k d (immediateOf P ram (k .pc))
-
--- "MOVE PC gives its own address (ruled)."
-abbrev pub moveCounterOf : List ℕ → Core → Pending → ℕ → Written
-moveCounterOf a k (At t) d = written (stayOf JumpPending k) a
-moveCounterOf a k None d = written (doneOf k) (set a (d % 32) (k .pc))
-
--- What a LOAD finds: "F02114h reads 2001h", "F0211Ch reads the remainder".
-abbrev pub loadOf : Core → List ℕ → Place → Loaded
-loadOf k ram (M.Ram at) = L.Long (longAt ram at)
-loadOf k ram M.Flags = L.Long (flagRegisterOf k)
-loadOf k ram M.Control = L.Long 0x2001
-loadOf k ram M.Divide = L.Long (k .remainder)
-loadOf k ram M.Misaligned = L.Misaligned
-loadOf k ram M.Unmapped = L.Unmapped
-
-abbrev pub moveLoadedOf : List ℕ → Core → ℕ → Loaded → Written
-moveLoadedOf a k d (L.Long n) = written (doneOf k) (set a (d % 32) n)
-moveLoadedOf a k d L.Misaligned = written (stayOf Misaligned k) a
-moveLoadedOf a k d L.Unmapped = written (stayOf Unmapped k) a
-
--- Whether a write to the flag register leaves the active bank.
-abbrev pub sameBank : Core → ℕ → Bool
-sameBank k n = eqb (k .bank % 2) (bankIn n)
-
--- "After any of these writes the completed step still moves the counter."
-abbrev pub storeOf : List ℕ → View → ℕ → Place → Outcome
-storeOf ram v n (M.Ram at) = unwritten (putLong ram at n) v (doneOf (v .core))
-storeOf ram v n M.Flags =
-    outcome (doneOf (withFlagRegister (v .core) n)) (cond (sameBank (v .core) n) (v .active) (v .other)) (cond (sameBank (v .core) n) (v .other) (v .active)) ram
-storeOf ram v n M.Control = unwritten ram v (doneOf (withControl (v .core) n))
-storeOf ram v n M.Divide = unwritten ram v (doneOf (withMode (v .core) n))
-storeOf ram v n M.Misaligned = unwritten ram v (stayOf Misaligned (v .core))
-storeOf ram v n M.Unmapped = unwritten ram v (stayOf Unmapped (v .core))
 
 unfoldable pub applyOf : Processor → List ℕ → View → Effect → Outcome
 applyOf P ram v E.NotBuilt = unwritten ram v (stayOf NotBuilt (v .core))

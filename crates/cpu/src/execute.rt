@@ -2,17 +2,18 @@
 ghost use mathlib.Core.Path.{_≡_};
 ghost use lib.ListN.{length};
 ghost use Rattle.memory.specs.Processor.{gpu};
-ghost use Rattle.cpu.specs.Step.{changeOf, running, outcome, viewFrom, operandsOf, executeOf, advanceOf};
-use crate::apply::Moved;
+ghost use Rattle.transfers.specs.Transfers.{changeOf, running, outcome, viewFrom};
+ghost use Rattle.cpu.specs.Step.{operandsOf, executeOf, advanceOf};
 use crate::apply::apply;
-use crate::apply::stay;
-use crate::registers::get;
 use effect::Operands;
 use effect::effect_at;
 use memory::Fetched;
 use memory::fetch;
+use registers::get;
 use state::answers::Answer;
 use state::live::Live;
+use transfers::Moved;
+use transfers::stay;
 
 // What the instruction of a word reads.
 fn operands_of(a: &[u32; 32], k: Live, w: u16) -> Operands

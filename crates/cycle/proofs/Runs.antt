@@ -14,8 +14,9 @@ use Rattle.state.specs.Answers.{numberOf, completedOf}
 use Rattle.state.specs.State.{coreOf}
 use Rattle.state.specs.declared.Activity.the-variants as A
 use Rattle.state.specs.declared.answers.Answer.the-variants.{Running, Stopped}
-use Rattle.cpu.specs.declared.apply.Moved.{Moved}
-use Rattle.cpu.specs.Step.{View, viewFrom, Outcome, running, outcome, changeOf, advanceOf}
+use Rattle.transfers.specs.declared.Moved.{Moved}
+use Rattle.transfers.specs.Transfers.{View, viewFrom, Outcome, running, outcome, changeOf}
+use Rattle.cpu.specs.Step.{advanceOf}
 use Rattle.cycle.specs.Runs.{runsOf, restOf, cut, leftOf, goneWith}
 
 pub stopped : (P : Processor) (b n : ℕ) (ram : List ℕ) (v : View) → length ram ≡ P .size → v .core .activity ≡ A.Stopped → runsOf P b n ram v ≡ record { answer = Stopped; steps = n; view = v; ram = ram }

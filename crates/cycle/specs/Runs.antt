@@ -11,7 +11,8 @@ use Rattle.state.specs.declared.answers.Answer.{Answer}
 use Rattle.state.specs.declared.answers.Answer.the-variants.{Running, Stopped}
 use Rattle.state.specs.Answers.{numberOf, completedOf}
 use Rattle.state.specs.State.{coreOf}
-use Rattle.cpu.specs.Step.{running, View, viewFrom, Outcome, advanceOf}
+use Rattle.transfers.specs.Transfers.{running, View, viewFrom, Outcome}
+use Rattle.cpu.specs.Step.{advanceOf}
 use Rattle.cycle.specs.declared.Gone.{Gone}
 
 -- The answer, the steps counted, and the state and RAM that they left.

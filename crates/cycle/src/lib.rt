@@ -3,7 +3,7 @@ ghost use mathlib.Core.Path.{_≡_};
 ghost use Rattle.memory.specs.Processor.{gpu};
 ghost use Prim.Native.Nat.{_+_, _^_, _<_};
 ghost use lib.ListN.{length};
-ghost use Rattle.cpu.specs.Step.{viewFrom, running};
+ghost use Rattle.transfers.specs.Transfers.{viewFrom, running};
 ghost use Rattle.cycle.specs.Runs.{leftOf, goneWith, runsOf};
 use cpu::advance;
 use state::Activity;

@@ -25,11 +25,12 @@ use Rattle.state.specs.declared.Activity.{Activity}
 use Rattle.state.specs.declared.Activity.the-variants as A
 use Rattle.state.specs.Answers.{completedOf}
 use Rattle.state.specs.declared.answers.Answer.the-variants.{Running, RamLength}
-use Rattle.cpu.specs.declared.apply.Loaded.{Loaded}
-use Rattle.cpu.specs.declared.apply.Loaded.the-variants as L
+use Rattle.transfers.specs.declared.Loaded.{Loaded}
+use Rattle.transfers.specs.declared.Loaded.the-variants as L
 use Rattle.memory.specs.declared.Immediate.{Immediate}
 use Rattle.memory.specs.declared.Immediate.the-variants as I
-use Rattle.cpu.specs.Step.{View, Outcome, inActive, immediateWritten, moveImmediateOf, moveCounterOf, moveLoadedOf, loadOf, storeOf, applyOf, operandsOf, unwritten, stayOf, doneOf, jumpOf, executeOf, fetchedOf, activeOf, advanceOf}
+use Rattle.transfers.specs.Transfers.{View, Outcome, immediateWritten, moveImmediateOf, moveCounterOf, moveLoadedOf, loadOf, storeOf, unwritten, stayOf, doneOf, jumpOf}
+use Rattle.cpu.specs.Step.{inActive, applyOf, operandsOf, executeOf, fetchedOf, activeOf, advanceOf}
 
 module _ (P : Processor) (ram : List ℕ) (v : View) where
   abbrev Untouched : Outcome → Type 0

@@ -22,11 +22,12 @@ use Rattle.state.specs.declared.Pending.the-variants.{None, At}
 use Rattle.state.specs.declared.Activity.{Activity}
 use Rattle.state.specs.declared.Activity.the-variants as A
 use Rattle.state.specs.declared.answers.Answer.the-variants.{RamLength}
-use Rattle.cpu.specs.declared.apply.Loaded.{Loaded}
-use Rattle.cpu.specs.declared.apply.Loaded.the-variants as L
+use Rattle.transfers.specs.declared.Loaded.{Loaded}
+use Rattle.transfers.specs.declared.Loaded.the-variants as L
 use Rattle.memory.specs.declared.Immediate.{Immediate}
 use Rattle.memory.specs.declared.Immediate.the-variants as I
-use Rattle.cpu.specs.Step.{View, Outcome, immediateWritten, moveImmediateOf, moveCounterOf, moveLoadedOf, loadOf, storeOf, sameBank, applyOf, operandsOf, executeOf, fetchedOf, activeOf, advanceOf}
+use Rattle.transfers.specs.Transfers.{View, Outcome, immediateWritten, moveImmediateOf, moveCounterOf, moveLoadedOf, loadOf, storeOf, sameBank}
+use Rattle.cpu.specs.Step.{applyOf, operandsOf, executeOf, fetchedOf, activeOf, advanceOf}
 
 -- the lengths of RAM, the active bank and the other one
 pub record Lengths (r a o : ℕ) (ram : List ℕ) (v : View) : Type 0 where

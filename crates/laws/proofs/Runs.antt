@@ -8,7 +8,8 @@ use native.Mathlib.Omega.{arith}
 use native.Mathlib.Nat.{suc-add, zero-add, add-zero}
 use Rattle.memory.specs.Processor.{Processor}
 use Rattle.state.specs.Answers.{completedOf}
-use Rattle.cpu.specs.Step.{View, Outcome, advanceOf}
+use Rattle.transfers.specs.Transfers.{View, Outcome}
+use Rattle.cpu.specs.Step.{advanceOf}
 use Rattle.laws.proofs.Lengths.{Lengths, advanced}
 use Rattle.laws.proofs.Widths.{Widths}
 use Rattle.laws.proofs.Widths as W

@@ -28,11 +28,12 @@ use Rattle.state.specs.declared.Pending.the-variants.{None, At}
 use Rattle.state.specs.declared.Activity.{Activity}
 use Rattle.state.specs.declared.Activity.the-variants as A
 use Rattle.state.specs.declared.answers.Answer.the-variants.{Running, RamLength}
-use Rattle.cpu.specs.declared.apply.Loaded.{Loaded}
-use Rattle.cpu.specs.declared.apply.Loaded.the-variants as L
+use Rattle.transfers.specs.declared.Loaded.{Loaded}
+use Rattle.transfers.specs.declared.Loaded.the-variants as L
 use Rattle.memory.specs.declared.Immediate.{Immediate}
 use Rattle.memory.specs.declared.Immediate.the-variants as I
-use Rattle.cpu.specs.Step.{View, Outcome, Written, immediateWritten, moveImmediateOf, moveCounterOf, moveLoadedOf, loadOf, storeOf, jumpOf, stayOf, doneOf, sameBank, applyOf, operandsOf, executeOf, fetchedOf, activeOf, advanceOf}
+use Rattle.transfers.specs.Transfers.{View, Outcome, Written, immediateWritten, moveImmediateOf, moveCounterOf, moveLoadedOf, loadOf, storeOf, jumpOf, stayOf, doneOf, sameBank}
+use Rattle.cpu.specs.Step.{applyOf, operandsOf, executeOf, fetchedOf, activeOf, advanceOf}
 
 -- every element is below m
 abbrev pub Below : ℕ → List ℕ → Type 0

@@ -7,7 +7,7 @@ use lib.ListN.{length}
 use Rattle.memory.specs.Processor.{Processor}
 use Rattle.state.specs.declared.answers.Answer.{Answer}
 use Rattle.state.specs.declared.answers.Answer.the-variants.{RamLength, BudgetLimit}
-use Rattle.cpu.specs.Step.{View, viewFrom}
+use Rattle.transfers.specs.Transfers.{View, viewFrom}
 use Rattle.cycle.specs.Runs.{Runs, runsOf}
 use Rattle.machine.specs.declared.State.{State}
 use Rattle.machine.specs.declared.Ran.{Ran}

@@ -2,8 +2,8 @@
 ghost use mathlib.Core.Path.{_≡_};
 ghost use Rattle.memory.specs.Processor.{gpu};
 ghost use Rattle.machine.specs.Run.{ranWith, runOf, stepOf};
-use cpu::registers::settle;
 use cycle::go;
+use registers::settle;
 use state::Core;
 use state::answers::Answer;
 

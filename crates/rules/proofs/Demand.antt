@@ -15,7 +15,8 @@ use Rattle.state.specs.declared.Pending.the-variants as Q
 use Rattle.state.specs.declared.Activity.{Activity}
 use Rattle.state.specs.declared.Activity.the-variants as A
 use Rattle.state.specs.declared.answers.Answer.the-variants.{Running, Stopped}
-use Rattle.cpu.specs.Step.{View, viewFrom, advanceOf}
+use Rattle.transfers.specs.Transfers.{View, viewFrom}
+use Rattle.cpu.specs.Step.{advanceOf}
 use Rattle.laws.proofs.Lengths.{Lengths}
 use Rattle.laws.proofs.Lengths as lengths
 use Rattle.laws.proofs.Widths.{Below, PendingFits, CoreFits, Widths}

@@ -14,7 +14,7 @@ use Rattle.state.specs.State.{counterOf, movedOf}
 use Rattle.state.specs.declared.Core.{Core}
 use Rattle.state.specs.declared.Pending.{Pending}
 use Rattle.state.specs.declared.Pending.the-variants.{None, At}
-use Rattle.cpu.specs.Step.{View, viewFrom}
+use Rattle.transfers.specs.Transfers.{View, viewFrom}
 use Rattle.rules.specs.declared.Range.{Range}
 use Rattle.rules.specs.declared.Item.{Item}
 use Rattle.rules.specs.declared.Item.the-variants.{Built}

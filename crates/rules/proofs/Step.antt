@@ -31,7 +31,8 @@ use Rattle.state.specs.declared.Pending.{Pending}
 use Rattle.state.specs.declared.Pending.the-variants as Q
 use Rattle.state.specs.declared.Activity.the-variants as A
 use Rattle.state.specs.declared.answers.Answer.the-variants.{Running}
-use Rattle.cpu.specs.Step.{View, viewFrom, Outcome, unwritten, doneOf, jumpOf, stayOf, inActive, moveCounterOf, moveLoadedOf, loadOf, storeOf, applyOf, operandsOf, executeOf, advanceOf}
+use Rattle.transfers.specs.Transfers.{View, viewFrom, Outcome, unwritten, doneOf, jumpOf, stayOf, moveCounterOf, moveLoadedOf, loadOf, storeOf}
+use Rattle.cpu.specs.Step.{inActive, applyOf, operandsOf, executeOf, advanceOf}
 use Rattle.laws.proofs.Lengths.{Lengths}
 use Rattle.rules.specs.declared.Range.{Range}
 use Rattle.rules.specs.declared.Item.{Item}

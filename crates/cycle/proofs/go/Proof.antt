@@ -5,7 +5,7 @@ use mathlib.Core.Path.{_∙_, sym, ap}
 use denote.Ref.{now}
 use Rattle.memory.specs.Processor.{gpu}
 use Rattle.state.specs.State.{coreOf}
-use Rattle.cpu.specs.Step.{viewFrom}
+use Rattle.transfers.specs.Transfers.{viewFrom}
 use Rattle.cycle.specs.Runs.{runsOf}
 use Rattle.cycle.proofs.Runs.{stopped}
 use Rattle.cycle.proofs.go.Statement.{statement}

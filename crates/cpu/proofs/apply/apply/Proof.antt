@@ -4,7 +4,8 @@ use borrow.Author.Needs.{needs}
 use mathlib.Core.Path.{_∙_, ap}
 use denote.Ref.{now}
 use Rattle.state.specs.declared.Activity.the-variants as A
-use Rattle.cpu.specs.Step.{changeOf, doneOf, running, viewFrom, inActive, applyOf}
+use Rattle.transfers.specs.Transfers.{changeOf, doneOf, running, viewFrom}
+use Rattle.cpu.specs.Step.{inActive, applyOf}
 use Rattle.state.specs.State.{withFlags}
 use Rattle.cpu.proofs.apply.apply.Statement.{statement}
 use Rattle.cpu.proofs.apply.apply.Tie as tie

@@ -3,7 +3,8 @@
 use borrow.Author.Needs.{needs}
 use borrow.Author.Tests.{eq-eqb}
 use mathlib.Core.Path.{_∙_}
-use Rattle.cpu.specs.Step.{changeOf, advanceOf}
+use Rattle.transfers.specs.Transfers.{changeOf}
+use Rattle.cpu.specs.Step.{advanceOf}
 use Rattle.cpu.proofs.execute.advance.Statement.{statement}
 use Rattle.cpu.proofs.execute.advance.Tie as tie
 

@@ -2,9 +2,9 @@
 -- Assumes nothing.
 use borrow.Author.Needs.{needs}
 use Rattle.state.specs.declared.Activity.the-variants as A
-use Rattle.cpu.specs.Step.{changeOf}
-use Rattle.cpu.proofs.apply.done.Statement.{statement}
-use Rattle.cpu.proofs.apply.done.Tie as tie
+use Rattle.transfers.specs.Transfers.{changeOf}
+use Rattle.transfers.proofs.done.Statement.{statement}
+use Rattle.transfers.proofs.done.Tie as tie
 
 returns : tie.Need-returns
 unfolding changeOf

@@ -3,9 +3,9 @@
 use borrow.Author.Needs.{needs}
 use borrow.Author.Tests.{eq-eqb, ne-eqb}
 use Rattle.state.specs.declared.Activity.the-variants as A
-use Rattle.cpu.specs.Step.{changeOf}
-use Rattle.cpu.proofs.apply.move_immediate.Statement.{statement}
-use Rattle.cpu.proofs.apply.move_immediate.Tie as tie
+use Rattle.transfers.specs.Transfers.{changeOf}
+use Rattle.transfers.proofs.move_immediate.Statement.{statement}
+use Rattle.transfers.proofs.move_immediate.Tie as tie
 
 returns : tie.Need-returns
 unfolding changeOf

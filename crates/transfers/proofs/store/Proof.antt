@@ -6,9 +6,9 @@ use mathlib.Core.Path.{_∙_, sym, ap}
 use Rattle.memory.specs.Processor.{gpu}
 use Rattle.memory.proofs.Places.{ram-holds, gpu-sound}
 use Rattle.state.specs.declared.Activity.the-variants as A
-use Rattle.cpu.specs.Step.{changeOf, doneOf}
-use Rattle.cpu.proofs.apply.store.Statement.{statement}
-use Rattle.cpu.proofs.apply.store.Tie as tie
+use Rattle.transfers.specs.Transfers.{changeOf, doneOf}
+use Rattle.transfers.proofs.store.Statement.{statement}
+use Rattle.transfers.proofs.store.Tie as tie
 
 put-long-requires : tie.Need-put-long-requires
 put-long-requires c κs =

@@ -4,9 +4,9 @@ use borrow.Author.Needs.{needs}
 use borrow.Author.Tests.{eq-eqb, ne-eqb}
 use mathlib.Core.Path.{_∙_, sym}
 use Rattle.state.specs.declared.Activity.the-variants as A
-use Rattle.cpu.specs.Step.{changeOf}
-use Rattle.cpu.proofs.apply.jump.Statement.{statement}
-use Rattle.cpu.proofs.apply.jump.Tie as tie
+use Rattle.transfers.specs.Transfers.{changeOf}
+use Rattle.transfers.proofs.jump.Statement.{statement}
+use Rattle.transfers.proofs.jump.Tie as tie
 
 returns : tie.Need-returns
 unfolding changeOf

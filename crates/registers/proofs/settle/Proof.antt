@@ -2,8 +2,8 @@
 -- Assumes nothing.
 use mathlib.Core.Path.{refl}
 use borrow.Author.Tests.{not-true, not-false}
-use Rattle.cpu.proofs.registers.settle.Statement.{statement}
-use Rattle.cpu.proofs.registers.settle.Tie as tie
+use Rattle.registers.proofs.settle.Statement.{statement}
+use Rattle.registers.proofs.settle.Tie as tie
 
 returns : tie.Need-returns
 returns c = rw (not-true (c .before .before .before .args .same) (c .before .before .if1 .taken)) (refl, refl)

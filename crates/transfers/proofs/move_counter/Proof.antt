@@ -2,9 +2,9 @@
 -- Assumes nothing.
 use borrow.Author.Needs.{needs}
 use borrow.Author.Tests.{eq-eqb, ne-eqb}
-use Rattle.cpu.specs.Step.{changeOf}
-use Rattle.cpu.proofs.apply.move_counter.Statement.{statement}
-use Rattle.cpu.proofs.apply.move_counter.Tie as tie
+use Rattle.transfers.specs.Transfers.{changeOf}
+use Rattle.transfers.proofs.move_counter.Statement.{statement}
+use Rattle.transfers.proofs.move_counter.Tie as tie
 
 returns : tie.Need-returns
 unfolding changeOf

@@ -5,9 +5,9 @@ use borrow.Author.Tests.{eq-eqb, ne-eqb}
 use Rattle.state.specs.declared.Activity.the-variants as A
 use mathlib.Core.Path.{ap}
 use Rattle.state.specs.declared.answers.Answer.the-variants.{Running}
-use Rattle.cpu.specs.Step.{changeOf}
-use Rattle.cpu.proofs.apply.control.Statement.{statement}
-use Rattle.cpu.proofs.apply.control.Tie as tie
+use Rattle.transfers.specs.Transfers.{changeOf}
+use Rattle.transfers.proofs.control.Statement.{statement}
+use Rattle.transfers.proofs.control.Tie as tie
 
 returns : tie.Need-returns
 unfolding changeOf

@@ -5,8 +5,8 @@ use native.Mathlib.Omega.{arith}
 use mathlib.Core.Path.{_∙_, sym}
 use Rattle.memory.specs.Processor.{gpu}
 use Rattle.memory.proofs.Places.{ram-holds, gpu-sound}
-use Rattle.cpu.proofs.apply.load.Statement.{statement}
-use Rattle.cpu.proofs.apply.load.Tie as tie
+use Rattle.transfers.proofs.load.Statement.{statement}
+use Rattle.transfers.proofs.load.Tie as tie
 
 long-at-requires : tie.Need-long-at-requires
 long-at-requires c κs =

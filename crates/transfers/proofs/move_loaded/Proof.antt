@@ -1,9 +1,9 @@
 -- `move_loaded` meets its contract, by what the load found.
 -- Assumes nothing.
 use borrow.Author.Needs.{needs}
-use Rattle.cpu.specs.Step.{changeOf}
-use Rattle.cpu.proofs.apply.move_loaded.Statement.{statement}
-use Rattle.cpu.proofs.apply.move_loaded.Tie as tie
+use Rattle.transfers.specs.Transfers.{changeOf}
+use Rattle.transfers.proofs.move_loaded.Statement.{statement}
+use Rattle.transfers.proofs.move_loaded.Tie as tie
 
 returns : tie.Need-returns
 unfolding changeOf
