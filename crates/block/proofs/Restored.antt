@@ -2,7 +2,7 @@
 -- Assumes nothing.
 use Prim.Native.Nat.{ℕ, _+_, _*_, _/_, _%_, _^_, _<_, _≤_}
 use mathlib.Core.Path.{_≡_, refl, sym, ap, _∙_}
-use mathlib.Core.Bool.{cond}
+use mathlib.Core.Bool.{true, cond}
 use mathlib.Core.List.{List}
 use native.Mathlib.Omega.{arith}
 use lib.Dec.{eqb}
@@ -16,7 +16,7 @@ use Rattle.state.specs.declared.Activity.{Activity}
 use Rattle.state.specs.declared.Activity.the-variants.{Running, Stopped}
 use Rattle.machine.specs.declared.State.{State}
 use Rattle.state.specs.State.{waitingOf, targetOf}
-use Rattle.block.specs.Block.{longs, putLongs, coreFrom, coreAt, stateAt, activityBit, statusOf, putCore, putState}
+use Rattle.block.specs.Block.{validOf, longs, putLongs, coreFrom, coreAt, stateAt, activityBit, statusOf, putCore, putState}
 use Rattle.block.proofs.Longs.{longs-length, longs-at}
 use Rattle.block.proofs.Stored.{put-length, same, below, puts-length, puts-below, puts-at}
 
@@ -46,6 +46,16 @@ module _ (z c n b a p m : ℕ) (hz : z < 2) (hc : c < 2) (hn : n < 2) (hb : b < 
   m-in : status / 262144 % 2 ≡ m
   m-in = omega arith
 
+  -- and the gaps are clear
+  low-clear : status / 8 % 2048 ≡ 0
+  low-clear = omega arith
+
+  middle-clear : status / 32768 % 2 ≡ 0
+  middle-clear = omega arith
+
+  high-clear : status / 524288 ≡ 0
+  high-clear = omega arith
+
 pending-bit : (p : Pending) → waitingOf p < 2
 pending-bit None = omega arith
 pending-bit (At t) = omega arith
@@ -62,8 +72,32 @@ activity-in : (a : Activity) → cond (eqb (activityBit a) 1) Running Stopped �
 activity-in Running = refl
 activity-in Stopped = refl
 
+-- "the target is zero if none is pending"
+target-rule : (p : Pending) → cond (eqb (waitingOf p) 1) true (eqb (targetOf p) 0) ≡ true
+target-rule None = refl
+target-rule (At t) = refl
+
 low-bit : (n : ℕ) → n % 2 < 2
 low-bit n = omega arith
+
+status-valid : (k : Core) → validOf (statusOf k) (targetOf (k .pending)) ≡ true
+status-valid k =
+    let z = k .flags .z % 2 in
+    let c = k .flags .c % 2 in
+    let n = k .flags .n % 2 in
+    let b = k .bank % 2 in
+    let a = activityBit (k .activity) in
+    let p = waitingOf (k .pending) in
+    let m = k .mode % 2 in
+    let hz = low-bit (k .flags .z) in
+    let hc = low-bit (k .flags .c) in
+    let hn = low-bit (k .flags .n) in
+    let hb = low-bit (k .bank) in
+    let ha = activity-bit (k .activity) in
+    let hp = pending-bit (k .pending) in
+    let hm = low-bit (k .mode) in
+    rw (low-clear z c n b a p m hz hc hn hb ha hp hm, middle-clear z c n b a p m hz hc hn hb ha hp hm, high-clear z c n b a p m hz hc hn hb ha hp hm, p-in z c n b a p m hz hc hn hb ha hp hm)
+    (target-rule (k .pending))
 
 bit : (n : ℕ) → n < 2 → n % 2 ≡ n
 bit n h = omega arith
@@ -136,6 +170,9 @@ module _ (k : Core) (f : FormedCore k) where
 
     length4 : length l4 ≡ 276
     length4 = put-length l3 268 (k .accumulator) ∙ length3
+
+    length5 : length l5 ≡ 276
+    length5 = put-length l4 272 (statusOf k) ∙ length4
 
     core-below : (j : ℕ) → j + 4 ≤ 256 → longAt l5 j ≡ longAt l j
     core-below j h =
@@ -233,3 +270,23 @@ state-back block s room f =
 
     third : coreAt whole ≡ s .core
     third = core-back (s .core) (f .core-formed) b2 room2
+
+-- the banks of a state leave a block its length
+banks-length : (block : List ℕ) (s : State) → length block ≡ 276 → length (putLongs (putLongs block 0 (s .bank0) 32) 128 (s .bank1) 32) ≡ 276
+banks-length block s room =
+    puts-length (putLongs block 0 (s .bank0) 32) 128 (s .bank1) 32 ∙ puts-length block 0 (s .bank0) 32 ∙ room
+
+-- the block that a state was written to has its length, and is valid
+module _ (block : List ℕ) (s : State) (room : length block ≡ 276) (f : Formed s) where
+  abbrev with-banks : List ℕ
+  with-banks = putLongs (putLongs block 0 (s .bank0) 32) 128 (s .bank1) 32
+
+  pub state-length : length (putState block s) ≡ 276
+  unfolding putCore
+  state-length = length5 (s .core) (f .core-formed) with-banks (banks-length block s room)
+
+  pub state-valid : validOf (longAt (putState block s) 272) (longAt (putState block s) 260) ≡ true
+  unfolding putCore
+  state-valid =
+      rw (status-back (s .core) (f .core-formed) with-banks (banks-length block s room), target-back (s .core) (f .core-formed) with-banks (banks-length block s room))
+      (status-valid (s .core))

@@ -1,11 +1,10 @@
-// The instruction words of the graphics processor: one Instr for each built instruction, decode and encode.
+// The instruction words of the graphics processor: one Instr for each built instruction, and its word.
 //
 // The numbers are those of source document 001, section 5.0; which words are built is paper 01's, "Words".
 
 mod form;
 mod word;
 
-pub use word::decode;
 pub use word::encode;
 
 // A register's number, 0 to 31.

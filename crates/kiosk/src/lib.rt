@@ -5,7 +5,8 @@ ghost use Rattle.memory.specs.Processor.{gpu};
 ghost use Rattle.rules.specs.Check.{checkOf};
 ghost use Rattle.rules.specs.Safety.{IsRam, IsState};
 ghost use Rattle.block.specs.Block.{stateAt};
-ghost use Rattle.kiosk.specs.Call.{called, callOf, checkReply};
+ghost use Rattle.calls.specs.Call.{called, callOf, checkReply};
+ghost use Rattle.calls.specs.Display.{Display};
 use block::is_valid;
 use block::read;
 use block::write;
@@ -39,9 +40,11 @@ pub extern "C" fn gpu_run(ram: &mut [u8], block: &mut [u8], budget: u64) -> u64
     answer.number() as u64 + 256 * r.steps as u64
 }
 
+// The second promise: what a reply of 0 means for every call of gpu_run after it.
 #[no_mangle]
 pub extern "C" fn gpu_check(ram: &[u8], code_len: u64) -> u64
     ensures { λ r. ⌜ r ≡ checkReply (checkOf gpu (now (ram .entry)) «code_len») ⌝ }
+    ensures { λ _. ⌜ Display ⌝ }
 {
     let v = check(ram, code_len);
     v.number() as u64 + 256 * v.address() as u64

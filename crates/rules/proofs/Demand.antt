@@ -39,7 +39,7 @@ use Rattle.rules.proofs.Step.{step}
 use Rattle.rules.proofs.Exact.{obeys, passed, exactly, told}
 
 -- the banks in their order and with the active one first
-view-state : (v : View) → viewOf (stateOf v) ≡ v
+pub view-state : (v : View) → viewOf (stateOf v) ≡ v
 view-state v = go (eqb (v .core .bank % 2) 0)
   where
     go : (t : Bool) → viewFrom (cond t (cond t (v .active) (v .other)) (cond t (v .other) (v .active))) (cond t (cond t (v .other) (v .active)) (cond t (v .active) (v .other))) (v .core) ≡ v

@@ -90,17 +90,17 @@ abbrev start : State
 start =
     record { bank0 = replicate 32 0; bank1 = replicate 32 0; core = record { bank = 0; flags = record { z = 0; n = 0; c = 0 }; pc = gpu .base; pending = None; remainder = 0; mode = 0; accumulator = 0; activity = Running } }
 
-below : ℕ → List ℕ → Bool
+unfoldable pub below : ℕ → List ℕ → Bool
 below n [] = true
 below n (x ∷ l) = ltb x n && below n l
 
-below-at : (n : ℕ) → 0 < n → (l : List ℕ) → below n l ≡ true → (i : ℕ) → getD l i 0 < n
+pub below-at : (n : ℕ) → 0 < n → (l : List ℕ) → below n l ≡ true → (i : ℕ) → getD l i 0 < n
 unfolding below
 below-at n z [] e i = z
 below-at n z (x ∷ l) e zero = ltb-true x n (and-l (ltb x n) (below n l) e)
 below-at n z (x ∷ l) e (suc i) = below-at n z l (and-r (ltb x n) (below n l) e) i
 
-card-ram : IsRam card
+pub card-ram : IsRam card
 unfolding card below
 card-ram = record { bytes = below-at 256 (omega arith) card refl }
 
@@ -127,7 +127,7 @@ start-state =
 start-begins : Begins gpu start
 start-begins = record { runs = refl; at-first = refl; none-pending = refl }
 
-card-length : length card ≡ 4096
+pub card-length : length card ≡ 4096
 unfolding card
 card-length = refl
 

@@ -108,7 +108,7 @@ fn class(sum: u32, c: Class) -> u32 {
 }
 
 fn word(n: u32, sum: u32) -> u32 {
-    match isa::decode((n % 65536) as u16) {
+    match decoder::decode((n % 65536) as u16) {
         Decoded::NotBuilt => mix(sum, 0),
         Decoded::Built(i) => class(mix2(sum, 1, isa::encode(i) as u32), class_of(i)),
     }

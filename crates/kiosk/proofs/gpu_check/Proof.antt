@@ -1,11 +1,12 @@
 -- `gpu_check` meets its contract.
 -- Assumes nothing.
 use borrow.Author.Needs.{needs}
+use Rattle.calls.proofs.Calls.{display}
 use Rattle.kiosk.proofs.gpu_check.Statement.{statement}
 use Rattle.kiosk.proofs.gpu_check.Tie as tie
 
 returns : tie.Need-returns
-returns c = rw (c .address .ensures, c .before .number .ensures, c .before .before .check .ensures .0)
+returns c = (rw (c .address .ensures, c .before .number .ensures, c .before .before .check .ensures .0), display)
 
 pub gpu-check-spec : {M : Type 1} → statement M
 gpu-check-spec =

@@ -4,8 +4,8 @@ use borrow.Author.Needs.{needs}
 use mathlib.Core.Path.{_∙_, sym}
 use native.Mathlib.Omega.{arith}
 use borrow.Author.Tests.{eq-eqb, ne-eqb, lt-ltb, le-ltb, not-true, not-false}
-use Rattle.kiosk.specs.Call.{callOf}
-use Rattle.kiosk.proofs.Typed.{call-typed}
+use Rattle.calls.specs.Call.{callOf}
+use Rattle.calls.proofs.Typed.{call-typed}
 use Rattle.kiosk.proofs.gpu_run.Statement.{statement}
 use Rattle.kiosk.proofs.gpu_run.Tie as tie
 

@@ -2,9 +2,9 @@
 -- Assumes nothing.
 use borrow.Author.Needs.{needs}
 use mathlib.Core.Path.{_∙_, sym}
 use Rattle.isa.proofs.RoundTrip.{is-built, not-built, decodes}
-use Rattle.isa.proofs.word.decode.Statement.{statement}
-use Rattle.isa.proofs.word.decode.Tie as tie
+use Rattle.decoder.proofs.decode.Statement.{statement}
+use Rattle.decoder.proofs.decode.Tie as tie
 
 returns : tie.Need-returns
 returns c =

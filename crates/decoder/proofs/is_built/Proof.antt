@@ -2,9 +2,9 @@
 -- Assumes nothing.
 use borrow.Author.Needs.{needs}
 use borrow.Author.Tests.{eq-eqb, ne-eqb}
-use Rattle.isa.proofs.Operands.{told}
-use Rattle.isa.proofs.word.is_built.Statement.{statement}
-use Rattle.isa.proofs.word.is_built.Tie as tie
+use Rattle.decoder.proofs.Operands.{told}
+use Rattle.decoder.proofs.is_built.Statement.{statement}
+use Rattle.decoder.proofs.is_built.Tie as tie
 
 returns : tie.Need-returns
 returns c = told _ _ _ (c .before .before .pre) (rw (c .before .match .keys1, eq-eqb _ _ (c .if1 .taken)))

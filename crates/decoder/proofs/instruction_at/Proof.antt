@@ -1,10 +1,10 @@
 -- `instruction_at` reads the opcode table: each arm of the match is a row, and an opcode of no arm has no row.
 -- Assumes nothing.
 use mathlib.Core.Path.{sym}
 use Rattle.isa.specs.Words.{instructionAt}
 use Rattle.isa.proofs.RoundTrip.{at, without-row}
-use Rattle.isa.proofs.word.instruction_at.Statement.{statement}
-use Rattle.isa.proofs.word.instruction_at.Tie as tie
+use Rattle.decoder.proofs.instruction_at.Statement.{statement}
+use Rattle.decoder.proofs.instruction_at.Tie as tie
 
 pub instruction-at-spec : {M : Type 1} → statement M
 unfolding instructionAt

@@ -23,10 +23,10 @@ beyond (x ∷ l) zero h = absurd (omega arith)
 beyond (x ∷ l) (suc i) h = beyond l i (omega arith)
 
 module _ (block : List ℕ) (h : IsRam block) where
-  word : (i : ℕ) → longAt block i < 2 ^ 32
+  pub word : (i : ℕ) → longAt block i < 2 ^ 32
   word i = omega (arith, h .bytes i, h .bytes (i + 1), h .bytes (i + 2), h .bytes (i + 3))
 
-  bank : (at : ℕ) → IsBank (longs block at 32)
+  pub bank : (at : ℕ) → IsBank (longs block at 32)
   bank at = record { registers = longs-length block at 32; words = λ i. go i (ltb i 32) refl }
     where
       go : (i : ℕ) (t : Bool) → ltb i 32 ≡ t → getD (longs block at 32) i 0 < 2 ^ 32
@@ -39,7 +39,7 @@ module _ (block : List ℕ) (h : IsRam block) where
   target true n small = small
   target false n small = tt
 
-  state-typed : IsState (stateAt block)
+  pub state-typed : IsState (stateAt block)
   unfolding coreAt
   state-typed =
       record {

@@ -1,0 +1,44 @@
+-- Demand 3 as the kiosk's C program meets it: one call after another on two buffers, with an admitted program.
+use Prim.Native.Nat.{ℕ, _%_, _≤_}
+use mathlib.Core.Path.{_≡_}
+use mathlib.Core.Bool.{true}
+use mathlib.Core.List.{List, [], _∷_}
+use lib.ListN.{length, take}
+use Rattle.memory.specs.Processor.{gpu}
+use Rattle.memory.specs.Memory.{longAt}
+use Rattle.machine.specs.Run.{budgetLimit}
+use Rattle.rules.specs.Check.{checkOf}
+use Rattle.rules.specs.Rules.{IsStart}
+use Rattle.rules.specs.Safety.{IsRam, Begins}
+use Rattle.block.specs.Block.{blockLength, validOf, stateAt}
+use Rattle.calls.specs.Call.{Call, called, callOf, checkReply}
+
+-- The buffers before the next call: each call goes on with what the one before left in them, and nobody else writes there.
+unfoldable pub afterCalls : List ℕ → Call → Call
+afterCalls [] c = c
+afterCalls (budget ∷ budgets) c = afterCalls budgets (callOf (c .ram) (c .block) budget)
+
+-- What the kiosk hands over at the start: RAM with the admitted code at its start, whatever stands behind it, and a valid block of
+-- "any state that is running, with the counter at the first instruction and no jump pending".
+pub record HandedOver (admitted : List ℕ) (C : ℕ) (ram block : List ℕ) : Type 0 where
+  pub whole-ram : length ram ≡ 4096
+  pub whole-block : length block ≡ blockLength
+  -- what every buffer of bytes has
+  pub ram-bytes : IsRam ram
+  pub block-bytes : IsRam block
+  pub same-code : take C ram ≡ take C admitted
+  pub valid : validOf (longAt block 272) (longAt block 260) ≡ true
+  pub begins : Begins gpu (stateAt block)
+
+-- What a call gives: the answer, the low byte of the reply, is 0 or 1; the code is in RAM byte for byte; and the counter, the long
+-- at byte 256 of the block, is an instruction start.
+pub record Shown (code : List ℕ) (c : Call) : Type 0 where
+  pub answers : c .reply % 256 ≤ 1
+  pub same-code : take (length code) (c .ram) ≡ code
+  pub at-start : IsStart gpu code (longAt (c .block) 256)
+
+-- Of a program that the check replied 0 to, every call with an allowed budget gives this, whatever calls came before.
+pub record Display : Type 0 where
+  pub shows : (admitted : List ℕ) (C : ℕ) → checkReply (checkOf gpu admitted C) ≡ 0 → (ram block : List ℕ) → HandedOver admitted C ram block
+      → (budgets : List ℕ) (budget : ℕ) → budget ≤ budgetLimit
+      → Shown (take C admitted) (afterCalls (budget ∷ []) (afterCalls budgets (called 0 ram block)))
