@@ -25,9 +25,11 @@ use Rattle.transfers.specs.Transfers.{View, Outcome, outcome, unwritten, stayOf
 abbrev pub writes : List ℕ → View → ℕ → ℕ → Core → Outcome
 writes ram v d n k = outcome (doneOf k) (set (v .active) (d % 32) n) (v .other) ram
 
+-- An instruction that writes the active bank alone.
 abbrev pub inActive : Written → View → List ℕ → Outcome
 inActive w v ram = outcome (w .moved) (w .active) (v .other) ram
 
+-- What an effect does to the machine.
 unfoldable pub applyOf : Processor → List ℕ → View → Effect → Outcome
 applyOf P ram v E.NotBuilt = unwritten ram v (stayOf NotBuilt (v .core))
 applyOf P ram v E.Nothing = unwritten ram v (doneOf (v .core))

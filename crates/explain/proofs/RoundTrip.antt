@@ -2,7 +2,7 @@
 -- as its answer and its address: digit by digit, line by line.
 -- Assumes nothing.
 use Prim.Native.Nat.{ℕ, zero, suc, _+_, _*_, _/_, _%_, _^_, _<_, _≤_}
-use mathlib.Core.Path.{_≡_, refl, sym, ap, _∙_}
+use mathlib.Core.Path.{_≡_, refl, ap, _∙_}
 use mathlib.Core.Bool.{Bool, true, false, cond}
 use mathlib.Core.List.{List, [], _∷_, _++_, append-assoc, append-nil}
 use native.Mathlib.Nat.{pow-suc}
@@ -20,7 +20,7 @@ use Rattle.advice.specs.Explanation.{said, explanationOf}
 use Rattle.template.specs.Fill.{filled}
 use Rattle.sentences.specs.Table.{runText}
 use Rattle.parser.specs.declared.Reading.the-variants.{Card as Read, Check}
-use Rattle.scanner.specs.Lines.{Line, number, none, Digits, decimal, hexadecimal, digitValue, numberIn, keyedIn}
+use Rattle.scanner.specs.Lines.{number, none, Digits, decimal, hexadecimal, digitValue, numberIn, keyedIn}
 use Rattle.parser.specs.Readings.{checkOf, cardOf, readingOf}
 
 -- A digit counts what it was written for.

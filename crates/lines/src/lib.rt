@@ -1,5 +1,4 @@
 // Lines of a key and a number, written into lent bytes. Each function answers the place behind what it wrote.
-ghost use mathlib.Core.Path.{_≡_};
 ghost use Prim.Native.Nat.{_+_, _≤_};
 ghost use lib.ListN.{length};
 ghost use Rattle.text.specs.Digits.{hexDigits, decimalOf};
