@@ -15,7 +15,7 @@ use Rattle.state.specs.declared.Pending.{Pending}
 use Rattle.state.specs.declared.Pending.the-variants.{None, At}
 use Rattle.state.specs.declared.answers.Answer.the-variants.{BudgetLimit}
 use Rattle.state.specs.State.{targetOf}
-use Rattle.transfers.specs.Transfers.{View, viewFrom}
+use Rattle.transfers.specs.Transfers.{View}
 use Rattle.cycle.specs.Runs.{runsOf}
 use Rattle.machine.specs.declared.State.{State}
 use Rattle.machine.specs.Run.{budgetLimit, viewOf, stateOf, refused, resultOf, runOf}
@@ -28,13 +28,13 @@ use Rattle.rules.specs.Rules.{IsStart}
 use Rattle.rules.specs.Safety.{Loaded, Kept, Safe}
 use Rattle.rules.specs.Safety as safety
 use Rattle.rules.proofs.Booleans.{by}
-use Rattle.rules.proofs.Demand.{view-state}
+use Rattle.rules.proofs.Demand.{view-state, viewed}
 use Rattle.rules.proofs.Examples.{gpu-demand3}
 use Rattle.block.specs.Block.{validOf, coreAt, stateAt, putState}
 use Rattle.block.proofs.Restored.{FormedCore, FormedBank, Formed, state-back, state-length, state-valid}
 use Rattle.calls.specs.Call.{Call, called, ranOn, callOf, checkReply}
 use Rattle.calls.specs.Display.{afterCalls, HandedOver, Shown, Display}
-use Rattle.calls.proofs.Typed.{word, bank, state-typed}
+use Rattle.calls.proofs.Typed.{word, state-typed}
 
 -- a reply of 0 admits
 admits : (v : Verdict) → checkReply v ≡ 0 → v ≡ Admitted
@@ -173,18 +173,14 @@ module _ {admitted : List ℕ} {C : ℕ} {ram block : List ℕ} (h : HandedOver 
 
   linked : Linked ram block (stateAt block)
   linked =
-      let v = first (eqb (coreAt block .bank % 2) 0) in
-      record { room = h .whole-block; same = refl; ok = h .valid; sizes = v .0; words = v .1 }
-    where
-      first : (t : Bool) → Lengths 4096 32 32 ram (viewFrom (cond t (stateAt block .bank0) (stateAt block .bank1)) (cond t (stateAt block .bank1) (stateAt block .bank0)) (coreAt block)) × Widths 2 ram (viewFrom (cond t (stateAt block .bank0) (stateAt block .bank1)) (cond t (stateAt block .bank1) (stateAt block .bank0)) (coreAt block))
-      first true =
-          let b0 = bank block (h .block-bytes) 0 in
-          let b1 = bank block (h .block-bytes) 128 in
-          (record { ram-length = h .whole-ram; active-length = b0 .registers; other-length = b1 .registers }, record { bytes = h .ram-bytes .bytes; active-words = b0 .words; other-words = b1 .words; core-fits = bits })
-      first false =
-          let b0 = bank block (h .block-bytes) 0 in
-          let b1 = bank block (h .block-bytes) 128 in
-          (record { ram-length = h .whole-ram; active-length = b1 .registers; other-length = b0 .registers }, record { bytes = h .ram-bytes .bytes; active-words = b1 .words; other-words = b0 .words; core-fits = bits })
+      let v = viewed 4096 ram (stateAt block) (h .whole-ram) (state-typed block (h .block-bytes)) in
+      record {
+        room = h .whole-block;
+        same = refl;
+        ok = h .valid;
+        sizes = v .0;
+        words = record { bytes = h .ram-bytes .bytes; active-words = v .1; other-words = v .2; core-fits = bits };
+      }
 
   loaded : Loaded gpu admitted C ram (stateAt block)
   loaded =

@@ -26,7 +26,7 @@ module _ (block : List ℕ) (h : IsRam block) where
   pub word : (i : ℕ) → longAt block i < 2 ^ 32
   word i = omega (arith, h .bytes i, h .bytes (i + 1), h .bytes (i + 2), h .bytes (i + 3))
 
-  pub bank : (at : ℕ) → IsBank (longs block at 32)
+  bank : (at : ℕ) → IsBank (longs block at 32)
   bank at = record { registers = longs-length block at 32; words = λ i. go i (ltb i 32) refl }
     where
       go : (i : ℕ) (t : Bool) → ltb i 32 ≡ t → getD (longs block at 32) i 0 < 2 ^ 32

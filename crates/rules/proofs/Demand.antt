@@ -53,6 +53,16 @@ state-view s = go (eqb (s .core .bank % 2) 0)
     go true = refl
     go false = refl
 
+-- a state with its active bank first: as many registers in each, and words in them
+pub viewed : (n : ℕ) (ram : List ℕ) (s : State) → length ram ≡ n → IsState s → Lengths n 32 32 ram (viewOf s) × Below (2 ^ 32) (viewOf s .active) × Below (2 ^ 32) (viewOf s .other)
+viewed n ram s whole is = go (eqb (s .core .bank % 2) 0)
+  where
+    go : (t : Bool) → Lengths n 32 32 ram (viewFrom (cond t (s .bank0) (s .bank1)) (cond t (s .bank1) (s .bank0)) (s .core)) × Below (2 ^ 32) (cond t (s .bank0) (s .bank1)) × Below (2 ^ 32) (cond t (s .bank1) (s .bank0))
+    go true =
+        (record { ram-length = whole; active-length = is .first-bank .registers; other-length = is .second-bank .registers }, is .first-bank .words, is .second-bank .words)
+    go false =
+        (record { ram-length = whole; active-length = is .second-bank .registers; other-length = is .first-bank .registers }, is .second-bank .words, is .first-bank .words)
+
 module _ (P : Processor) (sound : Sound P) (apart : Apart P) (code : List ℕ) (small : length code ≤ P .size) (R : Rules P code) where
   -- what is carried from step to step
   record Holds (ram : List ℕ) (v : View) : Type 0 where
@@ -148,14 +158,7 @@ module _ (P : Processor) (sound : Sound P) (apart : Apart P) (code : List ℕ) (
           rests (suc b) n ram v h _ (stopped P (suc b) n ram v (h .sizes .ram-length) e) refl (omega arith) refl refl
       go A.Running e later = let a = advance ram v h e in longer b n ram v h a (later a)
 
-  -- the state with its active bank first has words in its registers
   module _ (ram : List ℕ) (s : State) (whole : length ram ≡ P .size) (bytes : IsRam ram) (is : IsState s) where
-    first-view : (t : Bool) → (Lengths (P .size) 32 32 ram (viewFrom (cond t (s .bank0) (s .bank1)) (cond t (s .bank1) (s .bank0)) (s .core))) × Below (2 ^ 32) (cond t (s .bank0) (s .bank1)) × Below (2 ^ 32) (cond t (s .bank1) (s .bank0))
-    first-view true =
-        (record { ram-length = whole; active-length = is .first-bank .registers; other-length = is .second-bank .registers }, is .first-bank .words, is .second-bank .words)
-    first-view false =
-        (record { ram-length = whole; active-length = is .second-bank .registers; other-length = is .first-bank .registers }, is .second-bank .words, is .first-bank .words)
-
     pending-word : (p : Pending) → IsTargetWord p → PendingFits p
     pending-word Q.None h = tt
     pending-word (Q.At t) h = h
@@ -174,7 +177,7 @@ module _ (P : Processor) (sound : Sound P) (apart : Apart P) (code : List ℕ) (
 
     begins : take (length code) ram ≡ code → 0 < length code → Begins P s → Holds ram (viewOf s)
     begins same some b =
-        let f = first-view (eqb (s .core .bank % 2) 0) in
+        let f = viewed (P .size) ram s whole is in
         record {
           inv =
               record {
