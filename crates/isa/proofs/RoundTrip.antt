@@ -13,7 +13,7 @@ use Rattle.isa.specs.declared.Decoded.{Decoded}
 use Rattle.isa.specs.declared.Decoded.the-variants.{Built, NotBuilt}
 use Rattle.isa.specs.declared.form.Form.{Form}
 use Rattle.isa.specs.Table.{formOf, instructions}
-use Rattle.isa.specs.Words.{wordOf, opcodeIn, sourceIn, destinationIn, oneOf, unbuiltOpcodes, built, among, instructionAt, decodedAt, encodeOf, decodeOf}
+use Rattle.isa.specs.Words.{wordOf, opcodeIn, sourceIn, destinationIn, oneOf, unbuiltOpcodes, built, instructionAt, decodedAt, encodeOf, decodeOf}
 use Rattle.isa.specs.RoundTrip.{WellFormed, isBuilt, builtWord, Decodes, Encodes}
 use Rattle.isa.proofs.Each.{each}
 
@@ -61,16 +61,12 @@ abbrev hasRow : ℕ → List Instr → Bool
 hasRow op [] = false
 hasRow op (i ∷ is) = eqb (opcodeIn (formOf i)) op || hasRow op is
 
-none-of : (known : Type 0) (op : ℕ) (is : List Instr) → NoneOf known op is → known × (among op is ≡ Nop) × (hasRow op is ≡ false)
-none-of known op [] h = (h, refl, refl)
+none-of : (known : Type 0) (op : ℕ) (is : List Instr) → NoneOf known op is → known × (hasRow op is ≡ false)
+none-of known op [] h = (h, refl)
 none-of known op (i ∷ is) h =
     let rest = none-of (known × (op ≡ opcodeIn (formOf i) → ⊥)) op is h in
     let other = ne-eqb (opcodeIn (formOf i)) op (λ e. rest .0 .1 (sym e)) in
-    (rest .0 .0, rw other (rest .1), rw other (rest .2))
-
-pub without-row : (op s d : ℕ) → NoneOf Unit op (instructions s d) → instructionAt op s d ≡ Nop
-unfolding instructionAt
-without-row op s d h = none-of Unit op (instructions s d) h .1
+    (rest .0 .0, rw other (rest .1))
 
 -- every opcode has a row or is not built
 rows-or-not : (s d op : ℕ) → op < 64 → hasRow op (instructions s d) || oneOf op unbuiltOpcodes ≡ true
@@ -83,22 +79,9 @@ no-row op s d h = go (ltb op 64) refl
   where
     go : (t : Bool) → ltb op 64 ≡ t → decodedAt op s d ≡ NotBuilt
     go true e =
-        let not-built : oneOf op unbuiltOpcodes ≡ true = rw (none-of Unit op (instructions s d) h .2) at (rows-or-not s d op (ltb-true op 64 e)) in
+        let not-built : oneOf op unbuiltOpcodes ≡ true = rw (none-of Unit op (instructions s d) h .1) at (rows-or-not s d op (ltb-true op 64 e)) in
         rw (e, not-built)
     go false e = rw e
-
--- with an opcode that is known to be k
-pub at : {op k : ℕ} (s d : ℕ) → op ≡ k → instructionAt k s d ≡ instructionAt op s d
-at s d e = sym (ap (λ o. instructionAt o s d) e)
-
--- what three fields are, where they are a built word's and where not
-pub is-built : (op s d : ℕ) {i : Instr} → built op (eqb s 0) (eqb d 0) ≡ true → i ≡ instructionAt op s d → Built i ≡ decodedAt op s d
-unfolding decodedAt
-is-built op s d b e = rw b (ap Built e)
-
-pub not-built : (op s d : ℕ) → built op (eqb s 0) (eqb d 0) ≡ false → NotBuilt ≡ decodedAt op s d
-unfolding decodedAt
-not-built op s d b = rw b
 
 module _ (w : ℕ) (small : w < 65536) where
   back-at : (i : Instr) → fieldsIn (formOf i) ≡ (w / 1024) ∷ (w / 32 % 32) ∷ (w % 32) ∷ [] → WellFormed i × (encodeOf i ≡ w)

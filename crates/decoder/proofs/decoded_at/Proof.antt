@@ -1,0 +1,83 @@
+-- `decoded_at` reads the opcode table: each arm of the match is a row, and an opcode of no arm has no row.
+-- Assumes nothing.
+use borrow.Author.Needs.{needs}
+use mathlib.Core.Path.{refl, sym}
+use Rattle.isa.specs.Words.{instructionAt, decodedAt}
+use Rattle.isa.proofs.RoundTrip.{no-row}
+use Rattle.decoder.proofs.Fields.{at, sourceless, nop, no-nop}
+use Rattle.decoder.proofs.decoded_at.Statement.{statement}
+use Rattle.decoder.proofs.decoded_at.Tie as tie
+
+pub decoded-at-spec : {M : Type 1} → statement M
+unfolding instructionAt decodedAt
+decoded-at-spec =
+    tie.close
+    (tie.spec
+    (λ c κs. search needs)
+    (λ c κs. search needs)
+    (λ c κs. search needs)
+    (λ c κs. search needs)
+    (λ c κs. search needs)
+    (λ c κs. search needs)
+    (λ c κs. search needs)
+    (λ c κs. search needs)
+    (λ c κs. search needs)
+    (λ c κs. search needs)
+    (λ c. at _ _ (c .match .keys1))
+    (λ c. at _ _ (c .match .keys2))
+    (λ c. at _ _ (c .match .keys3))
+    (λ c. at _ _ (c .match .keys4))
+    (λ c. at _ _ (c .match .keys5))
+    (λ c. at _ _ (c .match .keys6))
+    (λ c. at _ _ (c .match .keys7))
+    (λ c. at _ _ (c .match .keys8))
+    (λ c. let a = c .before .before .args in sourceless (a .s) (a .d) (c .before .match .keys9) (λ u. refl) (λ u. refl) (c .only .ensures))
+    (λ c. at _ _ (c .match .keys10))
+    (λ c. at _ _ (c .match .keys11))
+    (λ c. at _ _ (c .match .keys12))
+    (λ c. let a = c .before .before .args in sourceless (a .s) (a .d) (c .before .match .keys13) (λ u. refl) (λ u. refl) (c .only2 .ensures))
+    (λ c. at _ _ (c .match .keys14))
+    (λ c. at _ _ (c .match .keys15))
+    (λ c. at _ _ (c .match .keys16))
+    (λ c. at _ _ (c .match .keys17))
+    (λ c. at _ _ (c .match .keys18))
+    (λ c. at _ _ (c .match .keys19))
+    (λ c. let a = c .before .before .args in sourceless (a .s) (a .d) (c .before .match .keys20) (λ u. refl) (λ u. refl) (c .only3 .ensures))
+    (λ c. at _ _ (c .match .keys21))
+    (λ c. at _ _ (c .match .keys22))
+    (λ c. let a = c .before .before .args in sourceless (a .s) (a .d) (c .before .match .keys23) (λ u. refl) (λ u. refl) (c .only4 .ensures))
+    (λ c. at _ _ (c .match .keys24))
+    (λ c. at _ _ (c .match .keys25))
+    (λ c. at _ _ (c .match .keys26))
+    (λ c. at _ _ (c .match .keys27))
+    (λ c. at _ _ (c .match .keys28))
+    (λ c. at _ _ (c .match .keys29))
+    (λ c. at _ _ (c .match .keys30))
+    (λ c. at _ _ (c .match .keys31))
+    (λ c. at _ _ (c .match .keys32))
+    (λ c. let a = c .before .before .args in sourceless (a .s) (a .d) (c .before .match .keys33) (λ u. refl) (λ u. refl) (c .only5 .ensures))
+    (λ c. let a = c .before .before .args in sourceless (a .s) (a .d) (c .before .match .keys34) (λ u. refl) (λ u. refl) (c .only6 .ensures))
+    (λ c. at _ _ (c .match .keys35))
+    (λ c. at _ _ (c .match .keys36))
+    (λ c. at _ _ (c .match .keys37))
+    (λ c. at _ _ (c .match .keys38))
+    (λ c. let a = c .before .before .args in sourceless (a .s) (a .d) (c .before .match .keys39) (λ u. refl) (λ u. refl) (c .only7 .ensures))
+    (λ c. at _ _ (c .match .keys40))
+    (λ c. at _ _ (c .match .keys41))
+    (λ c. at _ _ (c .match .keys42))
+    (λ c. at _ _ (c .match .keys43))
+    (λ c. at _ _ (c .match .keys44))
+    (λ c. at _ _ (c .match .keys45))
+    (λ c. let a = c .before .before .args in sourceless (a .s) (a .d) (c .before .match .keys46) (λ u. refl) (λ u. refl) (c .only8 .ensures))
+    (λ c. at _ _ (c .match .keys47))
+    (λ c. at _ _ (c .match .keys48))
+    (λ c. at _ _ (c .match .keys49))
+    (λ c. at _ _ (c .match .keys50))
+    (λ c. let a = c .before .before .before .args in nop (a .s) (a .d) (c .before .before .match .keys51) (c .before .if1 .taken) (c .only9 .ensures))
+    (λ c. let a = c .before .before .args in no-nop (a .s) (a .d) (c .before .match .keys51) (c .if1 .left))
+    (λ c. at _ _ (c .match .keys52))
+    (λ c. at _ _ (c .match .keys53))
+    (λ c. at _ _ (c .match .keys54))
+    (λ c. at _ _ (c .match .keys55))
+    (λ c. let a = c .before .before .args in sourceless (a .s) (a .d) (c .before .match .keys56) (λ u. refl) (λ u. refl) (c .only10 .ensures))
+    (λ c. let a = c .before .args in sym (no-row (a .op) (a .s) (a .d) (c .match .rest))))
