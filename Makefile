@@ -58,7 +58,7 @@ instructions: target/bench ## count the instructions of a step, with valgrind
 	@bench/instructions
 
 check: ## prove what has changed, and run the programs
-	@rt check
+	@tools/in_memory rt check
 
 $(ARCHIVE): $(SOURCES)
 	@echo "building $@: about a minute, and in a fresh clone about five, with a line for each crate" >&2
