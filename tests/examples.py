@@ -3,7 +3,7 @@
     python3 tests/examples.py                  every examples/NAME.card is what the model says of examples/NAME.words
     python3 tests/examples.py --write          writes the cards
     python3 tests/examples.py --run PROGRAM    the program also prints each card, given the image on its standard input,
-                                               and the card of answer 31, given images of wrong lengths
+                                               the model's card for inputs of other lengths, and the longest card
 """
 
 import argparse
@@ -15,10 +15,15 @@ ROOT = Path(__file__).resolve().parent.parent
 EXAMPLES = ROOT / "examples"
 sys.path.insert(0, str(ROOT / "tools"))
 
-from image import read_image
+from image import image_of, read_image
 from machine import card
 
-WRONG_LENGTHS = [0, 4095, 4097, 1048576]
+# An image has 4,096 bytes, and the program reads 4,097: around both, twice as long, and much longer.
+LENGTHS = [0, 1, 4095, 4096, 4097, 4098, 8192, 8194, 1048576]
+
+# A jump to itself is still running when the budget is spent, so that no card has more digits.
+ENDLESS = image_of("D7E0 E400")
+LONGEST = "answer=0\nsteps=1000000\npc=00F03000\nflags=00000000\nremain=00000000\nacc=00000000\n"
 
 
 def shown(path):
@@ -78,11 +83,16 @@ def check_cards(images):
 
 def check_program(program, images):
     """Lines about images for which a program prints something else than the model's card."""
-    cases = [(f"examples/{name}.words", image) for name, image in images.items()]
-    cases += [(f"{n} bytes", bytes(n)) for n in WRONG_LENGTHS]
+    cases = [(f"examples/{name}.words", image, card(image)) for name, image in images.items()]
+    # What is longer than an image begins with one that runs well.
+    for n in LENGTHS:
+        for first in (bytes(1), images["card"]):
+            given = (first * (n // len(first) + 1))[:n]
+            cases.append((f"{n} bytes that begin with {first[:2].hex()}", given, card(given)))
+    cases.append(("a jump to itself", ENDLESS, LONGEST))
     faults = []
-    for name, image in cases:
-        fault = printed_fault(program, image, card(image))
+    for name, image, wanted in cases:
+        fault = printed_fault(program, image, wanted)
         if fault:
             faults.append(f"{program}, given {name}: {fault}")
     return faults
@@ -112,7 +122,7 @@ def main():
     if faults:
         sys.exit(f"examples: {len(faults)} disagree")
     if given.run:
-        print(f"examples: the program prints {len(images)} cards, and answer 31 for {len(WRONG_LENGTHS)} wrong lengths")
+        print(f"examples: the program prints {len(images)} cards, those of inputs of {len(LENGTHS)} lengths, and the longest card")
     print(f"examples: {len(images)} cards agree")
 
 

@@ -1,6 +1,7 @@
-"""Holds docs/REFUSALS.md and the program that explains a number to each other, and its examples to the loading check.
+"""Holds docs/REFUSALS.md and the program that explains a number to each other, its examples to the loading check, and the ways to 12
+to the run program.
 
-    python3 tests/refusals.py --explain PROGRAM --check PROGRAM
+    python3 tests/refusals.py --explain PROGRAM --check PROGRAM --run PROGRAM
 
 The sentences and the examples are the page's; which numbers there are, and which text has which number, is paper 01's.
 """
@@ -106,8 +107,9 @@ class Page:
         return self.of_card(*found[:3]) if form is card else self.of_check(*found)
 
 
-def card_text(answer, steps, pc):
-    return f"answer={answer}\nsteps={steps}\npc={pc:08X}\nflags=00004007\nremain=0000002A\nacc=FFFFFFFF\n".encode()
+def card_text(answer, steps, pc, flags=0x4007, remainder=42, accumulator=0xFFFFFFFF):
+    lines = f"answer={answer}\nsteps={steps}\npc={pc:08X}\nflags={flags:08X}\nremain={remainder:08X}\nacc={accumulator:08X}\n"
+    return lines.encode()
 
 
 def check_text(answer, address):
@@ -122,8 +124,8 @@ def output_of(program, given):
 
 
 class Test:
-    def __init__(self, explain, check, page):
-        self.explain, self.check, self.page = explain, check, page
+    def __init__(self, programs, page):
+        self.explain, self.check, self.run, self.page = programs.explain, programs.check, programs.run, page
         self.texts = self.checks = 0
 
     def hold(self, text, wanted):
@@ -140,10 +142,18 @@ class Test:
             raise ValueError(f"the check of {image[:12].hex()}.. with the length {length!r} prints {got!r}, not {wanted}")
         self.hold(got, self.page.of_check(*wanted))
 
+    def hold_run(self, words, wanted):
+        """The card of an image is so printed, and explained by the sentences of 12."""
+        got = output_of(self.run, image_of(words))
+        if got != wanted:
+            raise ValueError(f"the run of {words!r} prints {got!r}, not {wanted!r}")
+        self.hold(got, self.page.of_text(wanted))
+
     def numbers(self):
         """Every number, in the text of a run and in that of the check, with its address and its steps filled in."""
         for answer in range(64):
-            for address, steps in ((0xF0300A, 3), (0, 0), (0xFFFFFFFF, 1000000)):
+            # The last makes the longest sentences that a number can have.
+            for address, steps in ((0xF0300A, 3), (0, 0), (0xFFFFFFFF, 1000000), (0xFFFFFFFF, 4294967295)):
                 self.hold(card_text(answer, steps, address), self.page.of_card(answer, steps, address))
                 self.hold(check_text(answer, address), self.page.of_check(answer, address))
         for path in sorted((ROOT / "examples").glob("*.card")):
@@ -171,6 +181,54 @@ class Test:
         for length in (b"4", b"4\n", b"0000000004", b"4\n\n", b"4\nwhat stands behind the line is not read"):
             self.hold_check(image, length, (0, 0))
 
+    def check_buffers(self):
+        """The check reads 4,096 bytes, and then 16: inputs around both lengths, and twice as long."""
+        image = image_of("D7E0 E400")
+        self.hold_check(image[:4095], b"", (31, 0))
+        self.hold_check(image, b"", (33, 0))
+        self.hold_check(image, b"4", (0, 0))
+        self.hold_check(image, image, (33, 0))
+        for count in (15, 16, 17, 32):
+            # A line with a length, and something behind it; a length with too many digits; and one that is no number.
+            self.hold_check(image, b"4\n" + b"7" * (count - 2), (0, 0))
+            self.hold_check(image, b"4".rjust(count, b"0"), (33, 0))
+            self.hold_check(image, b"4".ljust(count), (33, 0))
+        # Ten digits are the most: nine, ten and eleven.
+        for count, wanted in ((9, 0), (10, 0), (11, 33)):
+            for end in (b"", b"\n", b"\n4"):
+                self.hold_check(image, b"4".rjust(count, b"0") + end, (wanted, 0))
+
+    def text_buffers(self):
+        """No card is longer than 91 bytes, and explain reads 128: texts around both lengths, and twice as long."""
+        longest = card_text(4294967295, 4294967295, 0xFFFFFFFF)
+        if len(longest) != 91:
+            raise ValueError(f"the longest card has {len(longest)} bytes")
+        shorter = card_text(4294967295, 429496729, 0xFFFFFFFF)
+        self.hold(longest, self.page.unknown.said())
+        self.hold(longest.replace(b"=4294967295\nsteps", b"=0000000012\nsteps"), self.page.of_card(12, 4294967295, 0xFFFFFFFF))
+        for text in (longest, shorter):
+            self.hold(text[:-1], self.page.damaged.said(line=6))
+            for more in (b"\n", b"x", b"x\n", b"acc=00000000\n"):
+                self.hold(text + more, self.page.damaged.said(line=7))
+            for count in (90, 91, 92, 127, 128, 129, 182, 256):
+                behind = (text + b"\n" * count)[:count]
+                if len(text) < count:
+                    self.hold(behind, self.page.damaged.said(line=7))
+                self.hold(b"x" * count, self.page.no_card.said())
+                self.hold(b"answer=12\n" + b"x" * (count - 10), self.page.damaged.said(line=2))
+
+    def counters(self):
+        """Each way to the number 12: a counter that is odd, one outside the memory, and a MOVEI that the end cuts off."""
+        for place in (0xF03101, 0xF03FFF, 0xF04001, 0xF02FFF, 0xF02FFE, 0xF04000, 0, 0xFFFFFFFE, 0xFFFFFFFF):
+            # MOVEI #place,R1; JUMP (R1); NOP
+            self.hold_run(f"9801 {place & 0xFFFF:04X} {place >> 16:04X} D020 E400", card_text(12, 3, place, 0, 0, 0))
+        for place in (0xF03FFC, 0xF03FFE):
+            code = f"9801 {place & 0xFFFF:04X} 00F0 D020 E400\n@{place:X}\n9802"
+            self.hold_run(code, card_text(12, 3, place, 0, 0, 0))
+        # A MOVEI that ends with the memory is whole; so is a NOP at its end. The counter is behind the memory then.
+        self.hold_run("9801 3FFA 00F0 D020 E400\n@F03FFA\n9802 0000 0000", card_text(12, 4, 0xF04000, 0, 0, 0))
+        self.hold_run("9801 3FFE 00F0 D020 E400\n@F03FFE\nE400", card_text(12, 4, 0xF04000, 0, 0, 0))
+
     def damaged(self):
         """Any other text gets its sentences too."""
         whole = [card_text(11, 3, 0xF0300A), check_text(24, 0xF03002)]
@@ -195,15 +253,19 @@ def main():
     parser = argparse.ArgumentParser(description="Holds docs/REFUSALS.md and the program explain to each other.")
     parser.add_argument("--explain", required=True, metavar="PROGRAM")
     parser.add_argument("--check", required=True, metavar="PROGRAM")
+    parser.add_argument("--run", required=True, metavar="PROGRAM")
     given = parser.parse_args()
     try:
-        test = Test(given.explain, given.check, Page((ROOT / "docs" / "REFUSALS.md").read_text()))
+        test = Test(given, Page((ROOT / "docs" / "REFUSALS.md").read_text()))
         crate = ROOT / "crates" / "explain"
         if test.page.of_text((crate / "stdin").read_bytes()) != (crate / "stdout").read_text():
             raise ValueError("crates/explain/stdout is not what the page says of its stdin")
         test.numbers()
         test.examples()
         test.lengths()
+        test.check_buffers()
+        test.text_buffers()
+        test.counters()
         test.damaged()
     except ValueError as fault:
         sys.exit(f"tests: refusals: {fault}")

@@ -1,11 +1,10 @@
 // Rule 6 over the whole code. The ranges of the registers are read and written where they stand.
 ghost use mathlib.Core.Path.{_≡_};
-ghost use Prim.Native.Nat.{_+_, _≤_};
+ghost use Prim.Native.Nat.{_≤_};
 ghost use lib.ListN.{length};
 ghost use Rattle.memory.specs.Processor.{gpu};
 ghost use Rattle.rules.specs.Check.{firstAccess};
 ghost use Rattle.reading.specs.Marks.{MarksTargets};
-ghost use Rattle.reading.specs.Places.{hitAt};
 ghost use Rattle.accesses.specs.Items.{classIn, longIn};
 use class::Class;
 use ranges::access;
@@ -18,6 +17,7 @@ use reading::is_target;
 use reading::item_at;
 use reading::shape_of;
 use reading::size;
+use rules::Hit;
 use rules::Item;
 
 fn class_in(t: Item) -> Class
@@ -38,10 +38,10 @@ fn long_in(t: Item) -> u32
     }
 }
 
-// The first offset at which rule 6 is broken.
-pub fn first_access(code: &[u8], targets: &[bool; 4104]) -> usize
+// The first address at which rule 6 is broken.
+pub fn first_access(code: &[u8], targets: &[bool; 4104]) -> Hit
     requires { ⌜ (length (now code) ≤ 4096) × MarksTargets (now code) (now targets) ⌝ }
-    ensures { λ r. ⌜ hitAt (now (code .entry)) r ≡ firstAccess gpu (now (code .entry)) ⌝ }
+    ensures { λ r. ⌜ r ≡ firstAccess gpu (now (code .entry)) ⌝ }
 {
     let end = 0xF03000 + code.len() as u32;
     let mut i: usize = 0;
@@ -61,7 +61,7 @@ pub fn first_access(code: &[u8], targets: &[bool; 4104]) -> usize
             anything()
         };
         if !access(end, c, x, y) {
-            return i;
+            return Hit::At(0xF03000 + i as u32);
         }
         let n = i + size(shape_of(t));
         if is_target(code, targets, n) {
@@ -73,5 +73,5 @@ pub fn first_access(code: &[u8], targets: &[bool; 4104]) -> usize
         }
         i = n;
     }
-    i
+    Hit::Clear
 }

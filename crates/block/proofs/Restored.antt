@@ -1,60 +1,56 @@
--- A well-formed state, written to a block and read back, is the same state.
+-- A state, written to a block and read back, is the same state, and the block is valid.
 -- Assumes nothing.
 use Prim.Native.Nat.{ℕ, _+_, _*_, _/_, _%_, _^_, _<_, _≤_}
-use mathlib.Core.Path.{_≡_, refl, sym, ap, _∙_}
-use mathlib.Core.Bool.{true, cond}
+use mathlib.Core.Path.{_≡_, refl, sym, subst, _∙_}
+use mathlib.Core.Bool.{Bool, true, false, cond}
 use mathlib.Core.List.{List}
 use native.Mathlib.Omega.{arith}
 use lib.Dec.{eqb}
 use lib.ListN.{length, getD}
 use lib.Seq.{ext-getD}
+use Rattle.values.specs.Results.{bitOf}
 use Rattle.memory.specs.Memory.{longAt, putLong}
-use Rattle.state.specs.declared.Core.{Core}
 use Rattle.state.specs.declared.Pending.{Pending}
 use Rattle.state.specs.declared.Pending.the-variants.{None, At}
 use Rattle.state.specs.declared.Activity.{Activity}
 use Rattle.state.specs.declared.Activity.the-variants.{Running, Stopped}
 use Rattle.machine.specs.declared.State.{State}
+use Rattle.machine.specs.Types.{IsBank, IsTargetWord, IsState}
+use Rattle.machine.proofs.Views.{bit-fits}
 use Rattle.state.specs.State.{waitingOf, targetOf}
-use Rattle.block.specs.Block.{validOf, longs, putLongs, coreFrom, coreAt, stateAt, activityBit, statusOf, putCore, putState}
+use Rattle.block.specs.Block.{validOf, longs, putLongs, stateFrom, stateAt, activityBit, statusOf, putRest, putState}
+use Rattle.block.specs.RoundTrip.{Writes}
 use Rattle.block.proofs.Longs.{longs-length, longs-at}
 use Rattle.block.proofs.Stored.{put-length, same, below, puts-length, puts-below, puts-at}
 
--- seven bits with gaps between them, each taken out again
-module _ (z c n b a p m : ℕ) (hz : z < 2) (hc : c < 2) (hn : n < 2) (hb : b < 2) (ha : a < 2) (hp : p < 2) (hm : m < 2) where
-  abbrev status : ℕ
-  status = z + 2 * c + 4 * n + 16384 * b + 65536 * a + 131072 * p + 262144 * m
-
+-- seven bits of a status, with gaps between them that are clear
+record Bits (status z c n b a p m : ℕ) : Type 0 where
   z-in : status % 2 ≡ z
-  z-in = omega arith
-
   c-in : status / 2 % 2 ≡ c
-  c-in = omega arith
-
   n-in : status / 4 % 2 ≡ n
-  n-in = omega arith
-
-  b-in : status / 16384 % 2 ≡ b
-  b-in = omega arith
-
-  a-in : status / 65536 % 2 ≡ a
-  a-in = omega arith
-
-  p-in : status / 131072 % 2 ≡ p
-  p-in = omega arith
-
-  m-in : status / 262144 % 2 ≡ m
-  m-in = omega arith
-
-  -- and the gaps are clear
   low-clear : status / 8 % 2048 ≡ 0
-  low-clear = omega arith
-
+  b-in : status / 16384 % 2 ≡ b
   middle-clear : status / 32768 % 2 ≡ 0
-  middle-clear = omega arith
-
+  a-in : status / 65536 % 2 ≡ a
+  p-in : status / 131072 % 2 ≡ p
+  m-in : status / 262144 % 2 ≡ m
   high-clear : status / 524288 ≡ 0
-  high-clear = omega arith
+
+bits : (z c n b a p m : ℕ) → z < 2 → c < 2 → n < 2 → b < 2 → a < 2 → p < 2 → m < 2
+    → Bits (z + 2 * c + 4 * n + 16384 * b + 65536 * a + 131072 * p + 262144 * m) z c n b a p m
+bits z c n b a p m hz hc hn hb ha hp hm =
+    record {
+      z-in = omega arith;
+      c-in = omega arith;
+      n-in = omega arith;
+      low-clear = omega arith;
+      b-in = omega arith;
+      middle-clear = omega arith;
+      a-in = omega arith;
+      p-in = omega arith;
+      m-in = omega arith;
+      high-clear = omega arith;
+    }
 
 pending-bit : (p : Pending) → waitingOf p < 2
 pending-bit None = omega arith
@@ -63,6 +59,10 @@ pending-bit (At t) = omega arith
 activity-bit : (a : Activity) → activityBit a < 2
 activity-bit Running = omega arith
 activity-bit Stopped = omega arith
+
+bit-in : (t : Bool) → eqb (bitOf t) 1 ≡ t
+bit-in true = refl
+bit-in false = refl
 
 pending-in : (p : Pending) → cond (eqb (waitingOf p) 1) (At (targetOf p)) None ≡ p
 pending-in None = refl
@@ -77,216 +77,148 @@ target-rule : (p : Pending) → cond (eqb (waitingOf p) 1) true (eqb (targetOf p
 target-rule None = refl
 target-rule (At t) = refl
 
-low-bit : (n : ℕ) → n % 2 < 2
-low-bit n = omega arith
+target-small : (p : Pending) → IsTargetWord p → targetOf p < 2 ^ 32
+target-small None h = omega arith
+target-small (At t) h = h
 
-status-valid : (k : Core) → validOf (statusOf k) (targetOf (k .pending)) ≡ true
-status-valid k =
-    let z = k .flags .z % 2 in
-    let c = k .flags .c % 2 in
-    let n = k .flags .n % 2 in
-    let b = k .bank % 2 in
-    let a = activityBit (k .activity) in
-    let p = waitingOf (k .pending) in
-    let m = k .mode % 2 in
-    let hz = low-bit (k .flags .z) in
-    let hc = low-bit (k .flags .c) in
-    let hn = low-bit (k .flags .n) in
-    let hb = low-bit (k .bank) in
-    let ha = activity-bit (k .activity) in
-    let hp = pending-bit (k .pending) in
-    let hm = low-bit (k .mode) in
-    rw (low-clear z c n b a p m hz hc hn hb ha hp hm, middle-clear z c n b a p m hz hc hn hb ha hp hm, high-clear z c n b a p m hz hc hn hb ha hp hm, p-in z c n b a p m hz hc hn hb ha hp hm)
-    (target-rule (k .pending))
+-- the state of a status that was made of its bits
+module _ (s : State) where
+  status-bits : Bits (statusOf s) (bitOf (s .z)) (bitOf (s .c)) (bitOf (s .n)) (bitOf (s .second)) (activityBit (s .activity)) (waitingOf (s .pending)) (bitOf (s .mode))
+  status-bits =
+      bits _ _ _ _ _ _ _ (bit-fits (s .z)) (bit-fits (s .c)) (bit-fits (s .n)) (bit-fits (s .second)) (activity-bit (s .activity)) (pending-bit (s .pending)) (bit-fits (s .mode))
 
-bit : (n : ℕ) → n < 2 → n % 2 ≡ n
-bit n h = omega arith
+  status-valid : validOf (statusOf s) (targetOf (s .pending)) ≡ true
+  status-valid =
+      let q = status-bits in
+      rw (q .low-clear, q .middle-clear, q .high-clear, q .p-in) (target-rule (s .pending))
 
--- A state as the language's types have it: 32 registers of 32 bits in each bank, numbers of 32 bits, and flags of 0 or 1.
-pub record FormedCore (k : Core) : Type 0 where
-  pub bank-bit : k .bank < 2
-  pub z-bit : k .flags .z < 2
-  pub n-bit : k .flags .n < 2
-  pub c-bit : k .flags .c < 2
-  pub mode-bit : k .mode < 2
-  pub pc-small : k .pc < 2 ^ 32
-  pub target-small : targetOf (k .pending) < 2 ^ 32
-  pub remainder-small : k .remainder < 2 ^ 32
-  pub accumulator-small : k .accumulator < 2 ^ 32
-
-pub record FormedBank (b : List ℕ) : Type 0 where
-  pub count : length b ≡ 32
-  pub small : (i : ℕ) → getD b i 0 < 2 ^ 32
-
-pub record Formed (s : State) : Type 0 where
-  pub bank0-formed : FormedBank (s .bank0)
-  pub bank1-formed : FormedBank (s .bank1)
-  pub core-formed : FormedCore (s .core)
-
-module _ (k : Core) (f : FormedCore k) where
-  core-from : coreFrom (k .pc) (targetOf (k .pending)) (k .remainder) (k .accumulator) (statusOf k) ≡ k
-  core-from =
-      let z = k .flags .z % 2 in
-      let c = k .flags .c % 2 in
-      let n = k .flags .n % 2 in
-      let b = k .bank % 2 in
-      let a = activityBit (k .activity) in
-      let p = waitingOf (k .pending) in
-      let m = k .mode % 2 in
-      let hz = low-bit (k .flags .z) in
-      let hc = low-bit (k .flags .c) in
-      let hn = low-bit (k .flags .n) in
-      let hb = low-bit (k .bank) in
-      let ha = activity-bit (k .activity) in
-      let hp = pending-bit (k .pending) in
-      let hm = low-bit (k .mode) in
-      rw (z-in z c n b a p m hz hc hn hb ha hp hm, c-in z c n b a p m hz hc hn hb ha hp hm, n-in z c n b a p m hz hc hn hb ha hp hm, b-in z c n b a p m hz hc hn hb ha hp hm, a-in z c n b a p m hz hc hn hb ha hp hm, p-in z c n b a p m hz hc hn hb ha hp hm, m-in z c n b a p m hz hc hn hb ha hp hm, bit (k .flags .z) (f .z-bit), bit (k .flags .c) (f .c-bit), bit (k .flags .n) (f .n-bit), bit (k .bank) (f .bank-bit), bit (k .mode) (f .mode-bit), pending-in (k .pending), activity-in (k .activity))
+  state-from : stateFrom (s .bank0) (s .bank1) (s .pc) (targetOf (s .pending)) (s .remainder) (s .accumulator) (statusOf s) ≡ s
+  state-from =
+      let q = status-bits in
+      rw (q .z-in, q .c-in, q .n-in, q .b-in, q .a-in, q .p-in, q .m-in, bit-in (s .z), bit-in (s .c), bit-in (s .n), bit-in (s .second), bit-in (s .mode), pending-in (s .pending), activity-in (s .activity))
 
   -- the five longs behind the banks, one after the other
-  module _ (l : List ℕ) (room : length l ≡ 276) where
+  module _ (is : IsState s) (l : List ℕ) (room : 276 ≤ length l) where
     abbrev l1 : List ℕ
-    l1 = putLong l 256 (k .pc)
+    l1 = putLong l 256 (s .pc)
 
     abbrev l2 : List ℕ
-    l2 = putLong l1 260 (targetOf (k .pending))
+    l2 = putLong l1 260 (targetOf (s .pending))
 
     abbrev l3 : List ℕ
-    l3 = putLong l2 264 (k .remainder)
+    l3 = putLong l2 264 (s .remainder)
 
     abbrev l4 : List ℕ
-    l4 = putLong l3 268 (k .accumulator)
+    l4 = putLong l3 268 (s .accumulator)
 
     abbrev l5 : List ℕ
-    l5 = putLong l4 272 (statusOf k)
+    l5 = putLong l4 272 (statusOf s)
 
-    length1 : length l1 ≡ 276
-    length1 = put-length l 256 (k .pc) ∙ room
+    length1 : length l1 ≡ length l
+    length1 = put-length l 256 (s .pc)
 
-    length2 : length l2 ≡ 276
-    length2 = put-length l1 260 (targetOf (k .pending)) ∙ length1
+    length2 : length l2 ≡ length l
+    length2 = put-length l1 260 (targetOf (s .pending)) ∙ length1
 
-    length3 : length l3 ≡ 276
-    length3 = put-length l2 264 (k .remainder) ∙ length2
+    length3 : length l3 ≡ length l
+    length3 = put-length l2 264 (s .remainder) ∙ length2
 
-    length4 : length l4 ≡ 276
-    length4 = put-length l3 268 (k .accumulator) ∙ length3
+    length4 : length l4 ≡ length l
+    length4 = put-length l3 268 (s .accumulator) ∙ length3
 
-    length5 : length l5 ≡ 276
-    length5 = put-length l4 272 (statusOf k) ∙ length4
+    length5 : length l5 ≡ length l
+    length5 = put-length l4 272 (statusOf s) ∙ length4
 
-    core-below : (j : ℕ) → j + 4 ≤ 256 → longAt l5 j ≡ longAt l j
-    core-below j h =
-        below l4 272 (statusOf k) j (omega arith)
-        ∙ below l3 268 (k .accumulator) j (omega arith)
-        ∙ below l2 264 (k .remainder) j (omega arith)
-        ∙ below l1 260 (targetOf (k .pending)) j (omega arith)
-        ∙ below l 256 (k .pc) j (omega arith)
+    rest-below : (j : ℕ) → j + 4 ≤ 256 → longAt l5 j ≡ longAt l j
+    rest-below j h =
+        below l4 272 (statusOf s) j (omega arith)
+        ∙ below l3 268 (s .accumulator) j (omega arith)
+        ∙ below l2 264 (s .remainder) j (omega arith)
+        ∙ below l1 260 (targetOf (s .pending)) j (omega arith)
+        ∙ below l 256 (s .pc) j (omega arith)
 
-    small-status : statusOf k < 2 ^ 32
-    small-status = omega (arith, activity-bit (k .activity), pending-bit (k .pending))
+    small-status : statusOf s < 2 ^ 32
+    small-status = omega (arith, bit-fits (s .z), bit-fits (s .c), bit-fits (s .n), bit-fits (s .second), bit-fits (s .mode), activity-bit (s .activity), pending-bit (s .pending))
 
-    pc-back : longAt l5 256 ≡ k .pc
+    pc-back : longAt l5 256 ≡ s .pc
     pc-back =
-        below l4 272 (statusOf k) 256 (omega arith)
-        ∙ below l3 268 (k .accumulator) 256 (omega arith)
-        ∙ below l2 264 (k .remainder) 256 (omega arith)
-        ∙ below l1 260 (targetOf (k .pending)) 256 (omega arith)
-        ∙ same l 256 (k .pc) (omega (arith, room)) (f .pc-small)
+        below l4 272 (statusOf s) 256 (omega arith)
+        ∙ below l3 268 (s .accumulator) 256 (omega arith)
+        ∙ below l2 264 (s .remainder) 256 (omega arith)
+        ∙ below l1 260 (targetOf (s .pending)) 256 (omega arith)
+        ∙ same l 256 (s .pc) (omega arith) (is .pc-word)
 
-    target-back : longAt l5 260 ≡ targetOf (k .pending)
+    target-back : longAt l5 260 ≡ targetOf (s .pending)
     target-back =
-        below l4 272 (statusOf k) 260 (omega arith)
-        ∙ below l3 268 (k .accumulator) 260 (omega arith)
-        ∙ below l2 264 (k .remainder) 260 (omega arith)
-        ∙ same l1 260 (targetOf (k .pending)) (omega (arith, length1)) (f .target-small)
+        below l4 272 (statusOf s) 260 (omega arith)
+        ∙ below l3 268 (s .accumulator) 260 (omega arith)
+        ∙ below l2 264 (s .remainder) 260 (omega arith)
+        ∙ same l1 260 (targetOf (s .pending)) (omega (arith, length1)) (target-small (s .pending) (is .target-word))
 
-    remainder-back : longAt l5 264 ≡ k .remainder
+    remainder-back : longAt l5 264 ≡ s .remainder
     remainder-back =
-        below l4 272 (statusOf k) 264 (omega arith)
-        ∙ below l3 268 (k .accumulator) 264 (omega arith)
-        ∙ same l2 264 (k .remainder) (omega (arith, length2)) (f .remainder-small)
+        below l4 272 (statusOf s) 264 (omega arith)
+        ∙ below l3 268 (s .accumulator) 264 (omega arith)
+        ∙ same l2 264 (s .remainder) (omega (arith, length2)) (is .remainder-word)
 
-    accumulator-back : longAt l5 268 ≡ k .accumulator
+    accumulator-back : longAt l5 268 ≡ s .accumulator
     accumulator-back =
-        below l4 272 (statusOf k) 268 (omega arith) ∙ same l3 268 (k .accumulator) (omega (arith, length3)) (f .accumulator-small)
+        below l4 272 (statusOf s) 268 (omega arith) ∙ same l3 268 (s .accumulator) (omega (arith, length3)) (is .accumulator-word)
 
-    status-back : longAt l5 272 ≡ statusOf k
-    status-back = same l4 272 (statusOf k) (omega (arith, length4)) small-status
+    status-back : longAt l5 272 ≡ statusOf s
+    status-back = same l4 272 (statusOf s) (omega (arith, length4)) small-status
 
-    core-back : coreAt (putCore l k) ≡ k
-    unfolding coreAt putCore
-    core-back =
-        ap (λ n. coreFrom n (longAt l5 260) (longAt l5 264) (longAt l5 268) (longAt l5 272)) pc-back
-        ∙ ap (λ n. coreFrom (k .pc) n (longAt l5 264) (longAt l5 268) (longAt l5 272)) target-back
-        ∙ ap (λ n. coreFrom (k .pc) (targetOf (k .pending)) n (longAt l5 268) (longAt l5 272)) remainder-back
-        ∙ ap (λ n. coreFrom (k .pc) (targetOf (k .pending)) (k .remainder) n (longAt l5 272)) accumulator-back
-        ∙ ap (λ n. coreFrom (k .pc) (targetOf (k .pending)) (k .remainder) (k .accumulator) n) status-back
-        ∙ core-from
+    rest-back : stateFrom (s .bank0) (s .bank1) (longAt l5 256) (longAt l5 260) (longAt l5 264) (longAt l5 268) (longAt l5 272) ≡ s
+    rest-back = rw (pc-back, target-back, remainder-back, accumulator-back, status-back) state-from
 
 -- a bank whose registers are the longs from a place on
-bank-back : (l : List ℕ) (at : ℕ) (b : List ℕ) → FormedBank b → ((j : ℕ) → j < 32 → longAt l (at + 4 * j) ≡ getD b j 0) → longs l at 32 ≡ b
+bank-back : (l : List ℕ) (at : ℕ) (b : List ℕ) → IsBank b → ((j : ℕ) → j < 32 → longAt l (at + 4 * j) ≡ getD b j 0) → longs l at 32 ≡ b
 bank-back l at b f h =
-    ext-getD 0 (longs l at 32) b (longs-length l at 32 ∙ sym (f .count))
+    ext-getD 0 (longs l at 32) b (longs-length l at 32 ∙ sym (f .registers))
     (λ j less.
     let below-32 : j < 32 = omega (arith, longs-length l at 32) in
     longs-at l at 32 j below-32 ∙ h j below-32)
 
-pub state-back : (block : List ℕ) (s : State) → length block ≡ 276 → Formed s → stateAt (putState block s) ≡ s
-unfolding putCore
-state-back block s room f =
-    ap (λ b. record { bank0 = b; bank1 = longs whole 128 32; core = coreAt whole }) first
-    ∙ ap (λ b. record { bank0 = s .bank0; bank1 = b; core = coreAt whole }) second
-    ∙ ap (λ k. record { bank0 = s .bank0; bank1 = s .bank1; core = k }) third
-  where
-    b1 : List ℕ
-    b1 = putLongs block 0 (s .bank0) 32
+module _ (block : List ℕ) (s : State) (room : 276 ≤ length block) (is : IsState s) where
+  abbrev one-bank : List ℕ
+  one-bank = putLongs block 0 (s .bank0) 32
 
-    b2 : List ℕ
-    b2 = putLongs b1 128 (s .bank1) 32
+  abbrev banks : List ℕ
+  banks = putLongs one-bank 128 (s .bank1) 32
 
-    whole : List ℕ
-    whole = putCore b2 (s .core)
+  banks-length : length banks ≡ length block
+  banks-length = puts-length one-bank 128 (s .bank1) 32 ∙ puts-length block 0 (s .bank0) 32
 
-    room1 : length b1 ≡ 276
-    room1 = puts-length block 0 (s .bank0) 32 ∙ room
+  banks-room : 276 ≤ length banks
+  banks-room = omega (arith, banks-length)
 
-    room2 : length b2 ≡ 276
-    room2 = puts-length b1 128 (s .bank1) 32 ∙ room1
+  pub state-length : length (putState block s) ≡ length block
+  unfolding putRest
+  state-length = length5 s is banks banks-room ∙ banks-length
 
-    first : longs whole 0 32 ≡ s .bank0
-    first =
-        bank-back whole 0 (s .bank0) (f .bank0-formed)
-        (λ j h.
-        core-below (s .core) (f .core-formed) b2 room2 (0 + 4 * j) (omega arith)
-        ∙ puts-below b1 128 (s .bank1) 32 (0 + 4 * j) (omega arith)
-        ∙ puts-at block 0 (s .bank0) 32 j (omega (arith, room)) (f .bank0-formed .small) h)
+  pub state-back : stateAt (putState block s) ≡ s
+  unfolding stateAt putRest
+  state-back = rw (first, second) (rest-back s is banks banks-room)
+    where
+      first : longs (putState block s) 0 32 ≡ s .bank0
+      first =
+          bank-back (putState block s) 0 (s .bank0) (is .first-bank)
+          (λ j h.
+          rest-below s is banks banks-room (0 + 4 * j) (omega arith)
+          ∙ puts-below one-bank 128 (s .bank1) 32 (0 + 4 * j) (omega arith)
+          ∙ puts-at block 0 (s .bank0) 32 j (omega arith) (is .first-bank .words) h)
 
-    second : longs whole 128 32 ≡ s .bank1
-    second =
-        bank-back whole 128 (s .bank1) (f .bank1-formed)
-        (λ j h.
-        core-below (s .core) (f .core-formed) b2 room2 (128 + 4 * j) (omega arith)
-        ∙ puts-at b1 128 (s .bank1) 32 j (omega (arith, room1)) (f .bank1-formed .small) h)
-
-    third : coreAt whole ≡ s .core
-    third = core-back (s .core) (f .core-formed) b2 room2
-
--- the banks of a state leave a block its length
-banks-length : (block : List ℕ) (s : State) → length block ≡ 276 → length (putLongs (putLongs block 0 (s .bank0) 32) 128 (s .bank1) 32) ≡ 276
-banks-length block s room =
-    puts-length (putLongs block 0 (s .bank0) 32) 128 (s .bank1) 32 ∙ puts-length block 0 (s .bank0) 32 ∙ room
-
--- the block that a state was written to has its length, and is valid
-module _ (block : List ℕ) (s : State) (room : length block ≡ 276) (f : Formed s) where
-  abbrev with-banks : List ℕ
-  with-banks = putLongs (putLongs block 0 (s .bank0) 32) 128 (s .bank1) 32
-
-  pub state-length : length (putState block s) ≡ 276
-  unfolding putCore
-  state-length = length5 (s .core) (f .core-formed) with-banks (banks-length block s room)
+      second : longs (putState block s) 128 32 ≡ s .bank1
+      second =
+          bank-back (putState block s) 128 (s .bank1) (is .second-bank)
+          (λ j h.
+          rest-below s is banks banks-room (128 + 4 * j) (omega arith)
+          ∙ puts-at one-bank 128 (s .bank1) 32 j (omega (arith, puts-length block 0 (s .bank0) 32)) (is .second-bank .words) h)
 
   pub state-valid : validOf (longAt (putState block s) 272) (longAt (putState block s) 260) ≡ true
-  unfolding putCore
-  state-valid =
-      rw (status-back (s .core) (f .core-formed) with-banks (banks-length block s room), target-back (s .core) (f .core-formed) with-banks (banks-length block s room))
-      (status-valid (s .core))
+  unfolding putRest
+  state-valid = rw (status-back s is banks banks-room, target-back s is banks banks-room) (status-valid s)
+
+pub writes : (block : List ℕ) {after : List ℕ} {s : State} → 276 ≤ length block → IsState s → after ≡ putState block s → (after ≡ putState block s) × Writes s after
+writes block {after} {s} room is e =
+    (e, subst (Writes s) (sym e) (record { valid = state-valid block s room is; back = state-back block s room is }))

@@ -4,14 +4,15 @@ use mathlib.Core.Bool.{Bool, true, false, cond}
 use mathlib.Core.List.{List, [], _∷_, _++_}
 use lib.Dec.{eqb}
 use lib.ListN.{getD}
+use Rattle.values.specs.Results.{bitOf}
 use Rattle.memory.specs.Memory.{longAt, putLong}
-use Rattle.state.specs.State.{waitingOf, targetOf, flagsIn, bankIn, flagRegisterOf}
-use Rattle.state.specs.declared.Core.{Core}
+use Rattle.state.specs.State.{waitingOf, targetOf}
 use Rattle.state.specs.declared.Pending.{Pending}
 use Rattle.state.specs.declared.Pending.the-variants.{None, At}
 use Rattle.state.specs.declared.Activity.{Activity}
 use Rattle.state.specs.declared.Activity.the-variants.{Running, Stopped}
 use Rattle.machine.specs.declared.State.{State}
+use Rattle.machine.specs.State.{isOne}
 
 abbrev pub blockLength : ℕ
 blockLength = 276
@@ -31,39 +32,37 @@ abbrev pub validOf : ℕ → ℕ → Bool
 validOf status target =
     cond (eqb (status / 8 % 2 ^ 11) 0)
     (cond (eqb (status / 2 ^ 15 % 2) 0)
-    (cond (eqb (status / 2 ^ 19) 0) (cond (eqb (status / 2 ^ 17 % 2) 1) true (eqb target 0)) false)
+    (cond (eqb (status / 2 ^ 19) 0) (cond (isOne (status / 2 ^ 17)) true (eqb target 0)) false)
     false)
     false
 
 -- From the block to the state.
 abbrev pub pendingIn : ℕ → ℕ → Pending
-pendingIn status target = cond (eqb (status / 2 ^ 17 % 2) 1) (At target) None
+pendingIn status target = cond (isOne (status / 2 ^ 17)) (At target) None
 
 abbrev pub activityIn : ℕ → Activity
-activityIn status = cond (eqb (status / 2 ^ 16 % 2) 1) Running Stopped
+activityIn status = cond (isOne (status / 2 ^ 16)) Running Stopped
 
-abbrev pub coreFrom : ℕ → ℕ → ℕ → ℕ → ℕ → Core
-coreFrom pc target remainder accumulator status =
-    record { bank = bankIn status; flags = flagsIn status; pc = pc; pending = pendingIn status target; remainder = remainder; mode = status / 2 ^ 18 % 2; accumulator = accumulator; activity = activityIn status }
+abbrev pub stateFrom : List ℕ → List ℕ → ℕ → ℕ → ℕ → ℕ → ℕ → State
+stateFrom bank0 bank1 pc target remainder accumulator status =
+    record { bank0 = bank0; bank1 = bank1; second = isOne (status / 2 ^ 14); z = isOne status; n = isOne (status / 2 ^ 2); c = isOne (status / 2); pc = pc; pending = pendingIn status target; remainder = remainder; mode = isOne (status / 2 ^ 18); accumulator = accumulator; activity = activityIn status }
 
-unfoldable pub coreAt : List ℕ → Core
-coreAt block = coreFrom (longAt block 256) (longAt block 260) (longAt block 264) (longAt block 268) (longAt block 272)
-
-abbrev pub stateAt : List ℕ → State
-stateAt block = record { bank0 = longs block 0 32; bank1 = longs block 128 32; core = coreAt block }
+unfoldable pub stateAt : List ℕ → State
+stateAt block =
+    stateFrom (longs block 0 32) (longs block 128 32) (longAt block 256) (longAt block 260) (longAt block 264) (longAt block 268) (longAt block 272)
 
 -- And back.
 abbrev pub activityBit : Activity → ℕ
 activityBit Running = 1
 activityBit Stopped = 0
 
-abbrev pub statusOf : Core → ℕ
-statusOf k =
-    flagRegisterOf k + 2 ^ 16 * activityBit (k .activity) + 2 ^ 17 * waitingOf (k .pending) + 2 ^ 18 * (k .mode % 2)
+abbrev pub statusOf : State → ℕ
+statusOf s =
+    bitOf (s .z) + 2 * bitOf (s .c) + 4 * bitOf (s .n) + 2 ^ 14 * bitOf (s .second) + 2 ^ 16 * activityBit (s .activity) + 2 ^ 17 * waitingOf (s .pending) + 2 ^ 18 * bitOf (s .mode)
 
-unfoldable pub putCore : List ℕ → Core → List ℕ
-putCore block k =
-    putLong (putLong (putLong (putLong (putLong block 256 (k .pc)) 260 (targetOf (k .pending))) 264 (k .remainder)) 268 (k .accumulator)) 272 (statusOf k)
+unfoldable pub putRest : List ℕ → State → List ℕ
+putRest block s =
+    putLong (putLong (putLong (putLong (putLong block 256 (s .pc)) 260 (targetOf (s .pending))) 264 (s .remainder)) 268 (s .accumulator)) 272 (statusOf s)
 
 abbrev pub putState : List ℕ → State → List ℕ
-putState block s = putCore (putLongs (putLongs block 0 (s .bank0) 32) 128 (s .bank1) 32) (s .core)
+putState block s = putRest (putLongs (putLongs block 0 (s .bank0) 32) 128 (s .bank1) 32) s

@@ -1,123 +1,78 @@
 -- Every call of a display is safe. A call runs the state that the block holds, and the block that it leaves holds the state that
 -- the run left; so what demand 3 says of runs, it says of calls.
 -- Assumes nothing.
-use Prim.Native.Nat.{ℕ, _/_, _%_, _^_, _≤_, _<_}
+use Prim.Native.Nat.{ℕ, _≤_, _<_}
 use mathlib.Core.Path.{_≡_, refl, sym, subst, _∙_, ap}
-use mathlib.Core.Bool.{Bool, true, false, cond}
+use mathlib.Core.Bool.{true}
 use mathlib.Core.List.{List, [], _∷_}
 use native.Mathlib.Omega.{arith}
 use borrow.Author.Tests.{eq-eqb, lt-ltb, le-ltb, ltb-true, ltb-false}
-use lib.Dec.{eqb, ltb}
+use lib.Dec.{ltb}
 use lib.ListN.{length, take}
 use Rattle.memory.specs.Processor.{gpu}
 use Rattle.memory.specs.Memory.{longAt}
-use Rattle.state.specs.declared.Pending.{Pending}
-use Rattle.state.specs.declared.Pending.the-variants.{None, At}
-use Rattle.state.specs.declared.answers.Answer.the-variants.{BudgetLimit}
-use Rattle.state.specs.State.{targetOf}
-use Rattle.transfers.specs.Transfers.{View}
-use Rattle.cycle.specs.Runs.{runsOf}
+use Rattle.answers.specs.declared.Answer.the-variants.{BudgetLimit}
 use Rattle.machine.specs.declared.State.{State}
-use Rattle.machine.specs.Run.{budgetLimit, viewOf, stateOf, refused, resultOf, runOf}
-use Rattle.laws.proofs.Lengths.{Lengths}
-use Rattle.laws.proofs.Widths.{PendingFits, CoreFits, Widths}
-use Rattle.laws.proofs.Runs as runs
+use Rattle.machine.specs.State.{stateOf}
+use Rattle.machine.specs.Types.{IsBytes, IsState}
+use Rattle.machine.specs.Run.{budgetLimit, refused, runOf}
+use Rattle.machine.proofs.Laws.{leftBy, ran, refused-budget, left-whole, left-bytes, left-state}
 use Rattle.rules.specs.declared.Verdict.{Verdict}
-use Rattle.rules.specs.declared.Verdict.the-variants.{Admitted, RamLength, CodeLength, NotBuilt, JrTarget, JumpTarget, DelaySlot, Ending, Access}
+use Rattle.rules.specs.declared.Verdict.the-variants.{Admitted, RamLength, CodeLength, Broken}
 use Rattle.rules.specs.Rules.{IsStart}
 use Rattle.rules.specs.Safety.{Loaded, Kept, Safe}
 use Rattle.rules.specs.Safety as safety
 use Rattle.rules.proofs.Booleans.{by}
-use Rattle.rules.proofs.Demand.{view-state, viewed}
-use Rattle.rules.proofs.Examples.{gpu-demand3}
-use Rattle.block.specs.Block.{validOf, coreAt, stateAt, putState}
-use Rattle.block.proofs.Restored.{FormedCore, FormedBank, Formed, state-back, state-length, state-valid}
+use Rattle.rules.proofs.Examples.{gpu-goes-on}
+use Rattle.block.specs.Block.{validOf, stateAt, putState}
+use Rattle.block.proofs.Restored.{state-back, state-length, state-valid}
 use Rattle.calls.specs.Call.{Call, called, ranOn, callOf, checkReply}
 use Rattle.calls.specs.Display.{afterCalls, HandedOver, Shown, Display}
-use Rattle.calls.proofs.Typed.{word, state-typed}
+use Rattle.calls.proofs.Typed.{state-typed}
 
 -- a reply of 0 admits
 admits : (v : Verdict) → checkReply v ≡ 0 → v ≡ Admitted
 admits Admitted e = refl
 admits RamLength e = absurd (omega arith)
 admits CodeLength e = absurd (omega arith)
-admits (NotBuilt a) e = absurd (omega arith)
-admits (JrTarget a) e = absurd (omega arith)
-admits (JumpTarget a) e = absurd (omega arith)
-admits (DelaySlot a) e = absurd (omega arith)
-admits (Ending a) e = absurd (omega arith)
-admits (Access a) e = absurd (omega arith)
-
-target-fits : (p : Pending) → PendingFits p → targetOf p < 2 ^ 32
-target-fits None h = omega arith
-target-fits (At t) h = h
-
--- a state whose flags are bits, as the block can hold it
-module _ (ram : List ℕ) (v : View) (l : Lengths 4096 32 32 ram v) (w : Widths 2 ram v) where
-  active : FormedBank (v .active)
-  active = record { count = l .active-length; small = w .active-words }
-
-  other : FormedBank (v .other)
-  other = record { count = l .other-length; small = w .other-words }
-
-  core : FormedCore (v .core)
-  core =
-      record {
-        bank-bit = w .core-fits .bank-fits;
-        z-bit = w .core-fits .flags-fit .z-fits;
-        n-bit = w .core-fits .flags-fit .n-fits;
-        c-bit = w .core-fits .flags-fit .c-fits;
-        mode-bit = w .core-fits .mode-fits;
-        pc-small = w .core-fits .pc-fits;
-        target-small = target-fits (v .core .pending) (w .core-fits .pending-fits);
-        remainder-small = w .core-fits .remainder-fits;
-        accumulator-small = w .core-fits .accumulator-fits;
-      }
-
-  formed : Formed (stateOf v)
-  formed = go (eqb (v .core .bank % 2) 0)
-    where
-      go : (t : Bool) → Formed (record { bank0 = cond t (v .active) (v .other); bank1 = cond t (v .other) (v .active); core = v .core })
-      go true = record { bank0-formed = active; bank1-formed = other; core-formed = core }
-      go false = record { bank0-formed = other; bank1-formed = active; core-formed = core }
+admits (Broken r a) e = absurd (omega arith)
 
 -- the block holds the state s
 record Linked (ram block : List ℕ) (s : State) : Type 0 where
   room : length block ≡ 276
   same : stateAt block ≡ s
   ok : validOf (longAt block 272) (longAt block 260) ≡ true
-  sizes : Lengths 4096 32 32 ram (viewOf s)
-  words : Widths 2 ram (viewOf s)
+  whole : length ram ≡ 4096
+  bytes : IsBytes ram
+  typed : IsState s
 
 module _ {ram block : List ℕ} {s : State} (l : Linked ram block s) (budget : ℕ) where
-  ran : budget ≤ budgetLimit → runOf gpu ram s budget ≡ resultOf (runsOf gpu budget 0 ram (viewOf s))
-  unfolding runOf
-  ran allowed = rw (eq-eqb (length ram) 4096 (l .sizes .ram-length), le-ltb budgetLimit budget allowed)
-
   called-as : budget ≤ budgetLimit → callOf ram block budget ≡ ranOn block (runOf gpu ram s budget)
   unfolding callOf
   called-as allowed =
-      rw (eq-eqb (length ram) 4096 (l .sizes .ram-length), eq-eqb (length block) 276 (l .room), l .ok, le-ltb budgetLimit budget allowed)
+      rw (eq-eqb (length ram) 4096 (l .whole), eq-eqb (length block) 276 (l .room), l .ok, le-ltb budgetLimit budget allowed)
       (ap (λ t. ranOn block (runOf gpu ram t budget)) (l .same))
 
   refused-as : budgetLimit < budget → (callOf ram block budget ≡ called 32 ram block) × (runOf gpu ram s budget ≡ refused BudgetLimit s ram)
-  unfolding callOf runOf
-  refused-as above =
-      (rw (eq-eqb (length ram) 4096 (l .sizes .ram-length), eq-eqb (length block) 276 (l .room), l .ok, lt-ltb budgetLimit budget above), rw (eq-eqb (length ram) 4096 (l .sizes .ram-length), lt-ltb budgetLimit budget above))
+  unfolding callOf
+  refused-as above = (
+    rw (eq-eqb (length ram) 4096 (l .whole), eq-eqb (length block) 276 (l .room), l .ok, lt-ltb budgetLimit budget above),
+    refused-budget gpu ram s budget (l .whole) above,
+  )
 
   linked-after : budget ≤ budgetLimit → Linked (runOf gpu ram s budget .ram) (putState block (runOf gpu ram s budget .ran .state)) (runOf gpu ram s budget .ran .state)
   linked-after allowed =
-      let r = runsOf gpu budget 0 ram (viewOf s) in
-      let sizes = runs.lengths gpu 4096 32 budget 0 ram (viewOf s) (l .sizes) in
-      let words = runs.widths gpu 2 (omega arith) budget 0 ram (viewOf s) (l .words) in
-      let f = formed (r .ram) (r .view) sizes words in
-      subst (λ x. Linked (x .ram) (putState block (x .ran .state)) (x .ran .state)) (sym (ran allowed))
+      let r = leftBy gpu ram s budget in
+      let room : 276 ≤ length block = omega (arith, l .room) in
+      let typed = left-state gpu ram s (l .bytes) (l .typed) (l .whole) budget in
+      subst (λ x. Linked (x .ram) (putState block (x .ran .state)) (x .ran .state)) (sym (ran gpu ram s budget (l .whole) allowed))
       (record {
-        room = state-length block (stateOf (r .view)) (l .room) f;
-        same = state-back block (stateOf (r .view)) (l .room) f;
-        ok = state-valid block (stateOf (r .view)) (l .room) f;
-        sizes = subst (Lengths 4096 32 32 (r .ram)) (sym (view-state (r .view))) sizes;
-        words = subst (Widths 2 (r .ram)) (sym (view-state (r .view))) words;
+        room = state-length block (stateOf (r .view)) room typed ∙ l .room;
+        same = state-back block (stateOf (r .view)) room typed;
+        ok = state-valid block (stateOf (r .view)) room typed;
+        whole = left-whole gpu ram s (l .bytes) (l .typed) (l .whole) budget;
+        bytes = left-bytes gpu ram s (l .bytes) (l .typed) (l .whole) budget;
+        typed = typed;
       })
 
   -- a call leaves what the run left; a refused one changes nothing
@@ -134,10 +89,10 @@ module _ {ram block : List ℕ} {s : State} (l : Linked ram block s) (budget : �
 
   -- what a safe run shows
   shown : {code : List ℕ} → Safe gpu code ram s budget → budget ≤ budgetLimit → Shown code (callOf ram block budget)
-  unfolding coreAt
+  unfolding stateAt
   shown {code} safe allowed =
       let kept = subst (Kept gpu code) (safe .ends) (safe .keeps (runOf gpu ram s budget .ran .steps) (omega arith)) in
-      let pc : longAt (putState block (runOf gpu ram s budget .ran .state)) 256 ≡ runOf gpu ram s budget .ran .state .core .pc = ap (λ t. t .core .pc) (linked-after allowed .same) in
+      let pc : longAt (putState block (runOf gpu ram s budget .ran .state)) 256 ≡ runOf gpu ram s budget .ran .state .pc = ap (λ t. t .pc) (linked-after allowed .same) in
       subst (Shown code) (sym (called-as allowed))
       (record { answers = omega (arith, safe .answers); same-code = kept .same-code; at-start = subst (IsStart gpu code) (sym pc) (kept .at-start) })
 
@@ -154,33 +109,9 @@ along (b ∷ budgets) c {s} l =
     (along budgets next (subst (λ r. Linked r (next .block) to) (sym (a .0)) (a .1)))
 
 module _ {admitted : List ℕ} {C : ℕ} {ram block : List ℕ} (h : HandedOver admitted C ram block) where
-  bits : CoreFits 2 (coreAt block)
-  unfolding coreAt
-  bits =
-      record {
-        bank-fits = omega arith;
-        flags-fit = record { z-fits = omega arith; n-fits = omega arith; c-fits = omega arith };
-        pc-fits = word block (h .block-bytes) 256;
-        pending-fits = pending (eqb (longAt block 272 / 2 ^ 17 % 2) 1);
-        remainder-fits = word block (h .block-bytes) 264;
-        mode-fits = omega arith;
-        accumulator-fits = word block (h .block-bytes) 268;
-      }
-    where
-      pending : (t : Bool) → PendingFits (cond t (At (longAt block 260)) None)
-      pending true = word block (h .block-bytes) 260
-      pending false = tt
-
   linked : Linked ram block (stateAt block)
   linked =
-      let v = viewed 4096 ram (stateAt block) (h .whole-ram) (state-typed block (h .block-bytes)) in
-      record {
-        room = h .whole-block;
-        same = refl;
-        ok = h .valid;
-        sizes = v .0;
-        words = record { bytes = h .ram-bytes .bytes; active-words = v .1; other-words = v .2; core-fits = bits };
-      }
+      record { room = h .whole-block; same = refl; ok = h .valid; whole = h .whole-ram; bytes = h .ram-bytes; typed = state-typed block (h .block-bytes) }
 
   loaded : Loaded gpu admitted C ram (stateAt block)
   loaded =
@@ -193,6 +124,6 @@ display =
       shows = λ admitted C e ram block h budgets budget allowed.
           let a = along budgets (called 0 ram block) (linked h) in
           let c = afterCalls budgets (called 0 ram block) in
-          let safe = gpu-demand3 .goes-on admitted C (admits _ e) ram (stateAt block) (loaded h) budgets budget allowed in
+          let safe = gpu-goes-on .goes-on admitted C (admits _ e) ram (stateAt block) (loaded h) budgets budget allowed in
           subst (λ r. Shown (take C admitted) (callOf r (c .block) budget)) (sym (a .0)) (shown (a .1) budget safe allowed);
     }

@@ -9,7 +9,7 @@ use lib.ListN.{take, replicate}
 use Rattle.memory.specs.Memory.{putLong}
 use Rattle.machine.specs.Run.{budgetLimit}
 use Rattle.rules.proofs.Examples.{card, card-admitted, card-ram, card-length, below, below-at}
-use Rattle.block.specs.Block.{coreAt}
+use Rattle.block.specs.Block.{stateAt}
 use Rattle.calls.specs.Call.{called, checkReply}
 use Rattle.calls.specs.Display.{afterCalls, HandedOver, Shown}
 use Rattle.calls.proofs.Calls.{display}
@@ -19,7 +19,7 @@ pub start : List ℕ
 start = putLong (putLong (replicate 276 0) 256 0xF03000) 272 0x10000
 
 handed-over : HandedOver card 16 card start
-unfolding start below coreAt
+unfolding start below stateAt
 handed-over =
     record {
       whole-ram = card-length;

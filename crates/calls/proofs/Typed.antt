@@ -1,5 +1,4 @@
--- What demand 3 assumes of RAM and of the state is so in every call: bytes are below 256, and a block of bytes holds a state
--- whose numbers have 32 bits.
+-- What demand 3 assumes of a state is so in every call: a block of bytes holds a state whose numbers have 32 bits.
 -- Assumes nothing.
 use Prim.Native.Nat.{ℕ, zero, suc, _+_, _*_, _/_, _%_, _^_, _≤_, _<_}
 use mathlib.Core.Path.{_≡_, refl, sym, subst}
@@ -9,12 +8,10 @@ use native.Mathlib.Omega.{arith}
 use borrow.Author.Tests.{ltb-true, ltb-false}
 use lib.Dec.{eqb, ltb}
 use lib.ListN.{length, getD}
-use mir.Syntax.{w8}
-use mir.Val.{Fits}
 use Rattle.memory.specs.Memory.{longAt}
 use Rattle.state.specs.declared.Pending.the-variants.{None, At}
-use Rattle.rules.specs.Safety.{IsRam, IsBank, IsTargetWord, IsState}
-use Rattle.block.specs.Block.{longs, coreAt, stateAt}
+use Rattle.machine.specs.Types.{IsBytes, IsBank, IsTargetWord, IsState}
+use Rattle.block.specs.Block.{longs, stateAt}
 use Rattle.block.proofs.Longs.{longs-length, longs-at}
 
 beyond : (l : List ℕ) (i : ℕ) → length l ≤ i → getD l i 0 ≡ 0
@@ -22,8 +19,8 @@ beyond [] i h = refl
 beyond (x ∷ l) zero h = absurd (omega arith)
 beyond (x ∷ l) (suc i) h = beyond l i (omega arith)
 
-module _ (block : List ℕ) (h : IsRam block) where
-  pub word : (i : ℕ) → longAt block i < 2 ^ 32
+module _ (block : List ℕ) (h : IsBytes block) where
+  word : (i : ℕ) → longAt block i < 2 ^ 32
   word i = omega (arith, h .bytes i, h .bytes (i + 1), h .bytes (i + 2), h .bytes (i + 3))
 
   bank : (at : ℕ) → IsBank (longs block at 32)
@@ -40,24 +37,13 @@ module _ (block : List ℕ) (h : IsRam block) where
   target false n small = tt
 
   pub state-typed : IsState (stateAt block)
-  unfolding coreAt
+  unfolding stateAt
   state-typed =
       record {
         first-bank = bank 0;
         second-bank = bank 128;
-        bank-word = omega arith;
-        z-word = omega arith;
-        n-word = omega arith;
-        c-word = omega arith;
         pc-word = word 256;
         target-word = target (eqb (longAt block 272 / 2 ^ 17 % 2) 1) (longAt block 260) (word 260);
         remainder-word = word 264;
-        mode-word = omega arith;
         accumulator-word = word 268;
       }
-
-is-ram : (l : List ℕ) → ((i : ℕ) → Fits w8 (getD l i 0)) → IsRam l
-is-ram l h = record { bytes = λ i. h i .fits }
-
-pub call-typed : (ram block : List ℕ) → ((i : ℕ) → Fits w8 (getD ram i 0)) → ((i : ℕ) → Fits w8 (getD block i 0)) → IsRam ram × IsState (stateAt block)
-call-typed ram block r b = (is-ram ram r, state-typed block (is-ram block b))

@@ -1,4 +1,4 @@
--- The call: "The same run is called from the kiosk's C program with RAM, a budget and a state block of 276 bytes."
+-- The call: "The same run is called from the kiosk's C program with RAM, a budget and a state block of 276 bytes".
 use Prim.Native.Nat.{ℕ, _+_, _*_}
 use mathlib.Core.Bool.{cond}
 use mathlib.Core.List.{List}
@@ -6,7 +6,8 @@ use lib.Dec.{eqb, ltb}
 use lib.ListN.{length}
 use Rattle.memory.specs.Processor.{gpu}
 use Rattle.memory.specs.Memory.{longAt}
-use Rattle.state.specs.Answers.{numberOf}
+use Rattle.answers.specs.Answers.{numberOf}
+use Rattle.answers.specs.declared.Answer.the-variants.{RamLength, BudgetLimit, BlockRule, BlockLength}
 use Rattle.rules.specs.declared.Verdict.{Verdict}
 use Rattle.rules.specs.Verdicts as verdicts
 use Rattle.machine.specs.Run.{Result, runOf, budgetLimit}
@@ -29,13 +30,13 @@ ranOn block r =
 -- "Order for a run: 31, 35, 34, 32."
 unfoldable pub callOf : List ℕ → List ℕ → ℕ → Call
 callOf ram block budget =
-    cond (eqb (length ram) 4096)
+    cond (eqb (length ram) (gpu .size))
     (cond (eqb (length block) blockLength)
     (cond (validOf (longAt block 272) (longAt block 260))
-    (cond (ltb budgetLimit budget) (called 32 ram block) (ranOn block (runOf gpu ram (stateAt block) budget)))
-    (called 34 ram block))
-    (called 35 ram block))
-    (called 31 ram block)
+    (cond (ltb budgetLimit budget) (called (numberOf BudgetLimit) ram block) (ranOn block (runOf gpu ram (stateAt block) budget)))
+    (called (numberOf BlockRule) ram block))
+    (called (numberOf BlockLength) ram block))
+    (called (numberOf RamLength) ram block)
 
 -- The check's reply: answer + 256 × address.
 abbrev pub checkReply : Verdict → ℕ

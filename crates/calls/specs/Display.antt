@@ -7,9 +7,10 @@ use lib.ListN.{length, take}
 use Rattle.memory.specs.Processor.{gpu}
 use Rattle.memory.specs.Memory.{longAt}
 use Rattle.machine.specs.Run.{budgetLimit}
+use Rattle.machine.specs.Types.{IsBytes}
 use Rattle.rules.specs.Check.{checkOf}
 use Rattle.rules.specs.Rules.{IsStart}
-use Rattle.rules.specs.Safety.{IsRam, Begins}
+use Rattle.rules.specs.Safety.{Begins}
 use Rattle.block.specs.Block.{blockLength, validOf, stateAt}
 use Rattle.calls.specs.Call.{Call, called, callOf, checkReply}
 
@@ -23,9 +24,9 @@ afterCalls (budget ∷ budgets) c = afterCalls budgets (callOf (c .ram) (c .bloc
 pub record HandedOver (admitted : List ℕ) (C : ℕ) (ram block : List ℕ) : Type 0 where
   pub whole-ram : length ram ≡ 4096
   pub whole-block : length block ≡ blockLength
-  -- what every buffer of bytes has
-  pub ram-bytes : IsRam ram
-  pub block-bytes : IsRam block
+  -- as `gpu_run` promises of its buffers
+  pub ram-bytes : IsBytes ram
+  pub block-bytes : IsBytes block
   pub same-code : take C ram ≡ take C admitted
   pub valid : validOf (longAt block 272) (longAt block 260) ≡ true
   pub begins : Begins gpu (stateAt block)

@@ -1,26 +1,28 @@
 -- The run program: "It reads standard input as RAM, starts at F03000h, running, all else zero, budget 1,000,000".
 use Prim.Native.Nat.{ℕ}
+use mathlib.Core.Bool.{false}
 use mathlib.Core.List.{List, _++_}
 use lib.ListN.{length, drop, replicate}
 use Rattle.memory.specs.Processor.{gpu}
-use Rattle.state.specs.Answers.{numberOf}
+use Rattle.answers.specs.Answers.{numberOf}
 use Rattle.state.specs.State.{flagRegisterOf}
 use Rattle.state.specs.declared.Activity.the-variants.{Running}
 use Rattle.state.specs.declared.Pending.the-variants.{None}
 use Rattle.machine.specs.declared.State.{State}
 use Rattle.machine.specs.declared.Ran.{Ran}
+use Rattle.machine.specs.State.{innerOf}
 use Rattle.machine.specs.Run.{Result, runOf}
 use Rattle.card.specs.declared.Card.{Card}
 use Rattle.card.specs.Text.{cardText}
 
 abbrev pub startState : State
 startState =
-    record { bank0 = replicate 32 0; bank1 = replicate 32 0; core = record { bank = 0; flags = record { z = 0; n = 0; c = 0 }; pc = gpu .base; pending = None; remainder = 0; mode = 0; accumulator = 0; activity = Running } }
+    record { bank0 = replicate 32 0; bank1 = replicate 32 0; second = false; z = false; n = false; c = false; pc = gpu .base; pending = None; remainder = 0; mode = false; accumulator = 0; activity = Running }
 
 -- "answer and steps in decimal; counter, F02100h value, remainder and accumulator"
 abbrev pub cardOf : Ran → Card
 cardOf r =
-    record { answer = numberOf (r .answer); steps = r .steps; pc = r .state .core .pc; flags = flagRegisterOf (r .state .core); remainder = r .state .core .remainder; accumulator = r .state .core .accumulator }
+    record { answer = numberOf (r .answer); steps = r .steps; pc = r .state .pc; flags = flagRegisterOf (innerOf (r .state)); remainder = r .state .remainder; accumulator = r .state .accumulator }
 
 -- The text's length, the array that holds it at its start, and RAM after the run.
 pub record Printed : Type 0 where

@@ -7,10 +7,7 @@ use machine::Ran;
 use machine::State;
 use machine::run;
 use state::Activity;
-use state::Core;
 use state::Pending;
-use state::flag_word;
-use values::Flags;
 
 // The state in which an image starts.
 fn start() -> State
@@ -19,16 +16,16 @@ fn start() -> State
     State {
         bank0: [0u32; 32],
         bank1: [0u32; 32],
-        core: Core {
-            bank: 0,
-            flags: Flags { z: 0, n: 0, c: 0 },
-            pc: 0xF03000,
-            pending: Pending::None,
-            remainder: 0,
-            mode: 0,
-            accumulator: 0,
-            activity: Activity::Running,
-        },
+        second: false,
+        z: false,
+        n: false,
+        c: false,
+        pc: 0xF03000,
+        pending: Pending::None,
+        remainder: 0,
+        mode: false,
+        accumulator: 0,
+        activity: Activity::Running,
     }
 }
 
@@ -38,15 +35,13 @@ fn told(r: Ran) -> Card
 {
     let answer = r.answer;
     let s = r.state;
-    let k = s.core;
-    let f = k.flags;
     Card {
         answer: answer.number(),
         steps: r.steps,
-        pc: k.pc,
-        flags: flag_word(f, k.bank),
-        remainder: k.remainder,
-        accumulator: k.accumulator,
+        pc: s.pc,
+        flags: s.flag_register(),
+        remainder: s.remainder,
+        accumulator: s.accumulator,
     }
 }
 

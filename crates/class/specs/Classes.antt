@@ -1,5 +1,5 @@
 -- An instruction's class: which of the loading rules' sentences speaks of it.
-use Prim.Native.Nat.{_*_}
+use Prim.Native.Nat.{_*_, _%_}
 use Rattle.isa.specs.declared.Instr.{Instr}
 use Rattle.isa.specs.declared.Instr.the-variants.{Add, Addc, Addq, Addqt, Sub, Subc, Subq, Subqt, Neg, And, Or, Xor, Not, Btst, Bset, Bclr, Mult, Imult, Imultn, Resmac, Imacn, Div, Abs, Sh, Shlq, Shrq, Sha, Sharq, Ror, Rorq, Cmp, Cmpq, Sat8, Sat16, Move, Moveq, Moveta, Movefa, Movei, Load, LoadR14n, LoadR15n, Store, StoreR14n, StoreR15n, MovePc, Jump, Jr, Mtoi, Normi, Nop, LoadR14r, LoadR15r, StoreR14r, StoreR15r, Sat24}
 use Rattle.class.specs.declared.Class.{Class}
@@ -7,7 +7,7 @@ use Rattle.class.specs.declared.Class.the-variants as C
 use Rattle.class.specs.declared.Address.the-variants.{At, Offset, Indexed}
 use Rattle.field.specs.Fields.{quickOf}
 
--- "LOAD, STORE: address in a register, or R14 or R15 plus 4 × quick n or plus a register."
+-- "LOAD, STORE: address in a register, or R14 or R15 plus 4 × quick n or plus a register".
 -- CMP, CMPQ, BTST, IMULTN, IMACN, NOP and MOVETA write no register of the active bank;
 -- what is not named in "Known" is "Any other write to a register".
 abbrev pub classOf : Instr → Class
@@ -46,7 +46,7 @@ classOf (Cmpq n d) = C.Quiet
 classOf (Sat8 d) = C.Write d
 classOf (Sat16 d) = C.Write d
 classOf (Move s d) = C.Move s d
-classOf (Moveq u d) = C.Moveq u d
+classOf (Moveq u d) = C.Moveq (u % 32) d
 classOf (Moveta s d) = C.Quiet
 classOf (Movefa s d) = C.Write d
 classOf (Movei d) = C.Movei d

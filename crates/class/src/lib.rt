@@ -80,7 +80,7 @@ pub fn class_of(i: Instr) -> Class
         Instr::Sat8(d) => Class::Write(d),
         Instr::Sat16(d) => Class::Write(d),
         Instr::Move(s, d) => Class::Move(s, d),
-        Instr::Moveq(u, d) => Class::Moveq(u, d),
+        Instr::Moveq(u, d) => Class::Moveq(u % 32, d),
         Instr::Moveta(_, _) => Class::Quiet,
         Instr::Movefa(_, d) => Class::Write(d),
         Instr::Movei(d) => Class::Movei(d),

@@ -17,9 +17,9 @@ use Rattle.memory.specs.declared.Fetched.the-variants as F
 use Rattle.state.specs.declared.Core.{Core}
 use Rattle.state.specs.declared.Activity.{Activity}
 use Rattle.state.specs.declared.Activity.the-variants as A
-use Rattle.state.specs.declared.answers.Answer.the-variants.{Stopped, NotBuilt, BadCounter, RamLength}
+use Rattle.answers.specs.declared.Answer.the-variants.{Stopped, RamLength}
 use Rattle.state.specs.State.{withFlags, withRemainder, withAccumulator}
-use Rattle.transfers.specs.Transfers.{View, Outcome, outcome, unwritten, stayOf, doneOf, jumpOf, Written, moveImmediateOf, moveCounterOf, loadOf, moveLoadedOf, storeOf}
+use Rattle.transfers.specs.Transfers.{View, Outcome, outcome, unwritten, stayOf, faultedOf, doneOf, jumpOf, Written, moveImmediateOf, moveCounterOf, loadOf, moveLoadedOf, storeOf}
 
 -- Register d of the active bank becomes n, and the rest k moves on.
 abbrev pub writes : List ℕ → View → ℕ → ℕ → Core → Outcome
@@ -31,7 +31,7 @@ inActive w v ram = outcome (w .moved) (w .active) (v .other) ram
 
 -- What an effect does to the machine.
 unfoldable pub applyOf : Processor → List ℕ → View → Effect → Outcome
-applyOf P ram v E.NotBuilt = unwritten ram v (stayOf NotBuilt (v .core))
+applyOf P ram v (E.Refused f) = unwritten ram v (faultedOf f (v .core))
 applyOf P ram v E.Nothing = unwritten ram v (doneOf (v .core))
 applyOf P ram v (E.Write d r) = writes ram v d (r .value) (withFlags (v .core) (flagsOf r))
 applyOf P ram v (E.Keep d n) = writes ram v d n (v .core)
@@ -62,7 +62,7 @@ executeOf P ram v w = applyOf P ram v (effectIn (decodeOf w) (v .active) (operan
 -- "Fetching gives the word or the refusal, and later work takes only a word."
 abbrev pub fetchedOf : Processor → List ℕ → View → Fetched → Outcome
 fetchedOf P ram v (F.Word w) = executeOf P ram v w
-fetchedOf P ram v F.Outside = unwritten ram v (stayOf BadCounter (v .core))
+fetchedOf P ram v (F.Refused f) = unwritten ram v (faultedOf f (v .core))
 
 abbrev pub activeOf : Processor → List ℕ → View → Activity → Outcome
 activeOf P ram v A.Running = fetchedOf P ram v (fetchOf P ram (v .core .pc))

@@ -2,20 +2,20 @@
 ghost use mathlib.Core.Path.{_≡_};
 ghost use lib.ListN.{length};
 ghost use Rattle.memory.specs.Processor.{gpu};
-ghost use Rattle.transfers.specs.Transfers.{changeOf, running, outcome, viewFrom};
+ghost use Rattle.transfers.specs.Loop.{changeOf, running};
+ghost use Rattle.transfers.specs.Transfers.{outcome, viewFrom};
 ghost use Rattle.cpu.specs.Step.{applyOf};
 use effect::Effect;
 use registers::get;
 use registers::put;
-use state::answers::Answer;
 use state::live::Live;
 use transfers::Moved;
 use transfers::done;
+use transfers::fault;
 use transfers::jump;
 use transfers::move_counter;
 use transfers::move_immediate;
 use transfers::move_loaded;
-use transfers::stay;
 use transfers::store;
 
 // The effect's changes to the active bank, the other bank, RAM and the rest.
@@ -24,7 +24,7 @@ pub fn apply(a: &mut [u32; 32], o: &mut [u32; 32], k: Live, ram: &mut [u8], e: E
     ensures { λ r. ⌜ outcome (changeOf r) (now (a .exit)) (now (o .exit)) (now (ram .exit)) ≡ applyOf gpu (now (ram .entry)) (viewFrom (now (a .entry)) (now (o .entry)) (running k)) e ⌝ }
 {
     match e {
-        Effect::NotBuilt => stay(Answer::NotBuilt, k),
+        Effect::Refused(f) => fault(f, k),
         Effect::Nothing => done(k),
         Effect::Write(d, r) => {
             put(a, d, r.value);

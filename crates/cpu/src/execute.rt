@@ -2,18 +2,19 @@
 ghost use mathlib.Core.Path.{_≡_};
 ghost use lib.ListN.{length};
 ghost use Rattle.memory.specs.Processor.{gpu};
-ghost use Rattle.transfers.specs.Transfers.{changeOf, running, outcome, viewFrom};
+ghost use Rattle.transfers.specs.Loop.{changeOf, running};
+ghost use Rattle.transfers.specs.Transfers.{outcome, viewFrom};
 ghost use Rattle.cpu.specs.Step.{operandsOf, executeOf, advanceOf};
 use crate::apply::apply;
+use answers::Fault;
 use effect::Operands;
 use effect::effect_at;
 use memory::Fetched;
 use memory::fetch;
 use registers::get;
-use state::answers::Answer;
 use state::live::Live;
 use transfers::Moved;
-use transfers::stay;
+use transfers::fault;
 
 // What the instruction of a word reads.
 fn operands_of(a: &[u32; 32], k: Live, w: u16) -> Operands
@@ -50,7 +51,7 @@ pub fn advance(a: &mut [u32; 32], o: &mut [u32; 32], k: Live, ram: &mut [u8]) ->
     ensures { λ r. ⌜ outcome (changeOf r) (now (a .exit)) (now (o .exit)) (now (ram .exit)) ≡ advanceOf gpu (now (ram .entry)) (viewFrom (now (a .entry)) (now (o .entry)) (running k)) ⌝ }
 {
     let Fetched::Word(w) = fetch(ram, k.pc) else {
-        return stay(Answer::BadCounter, k);
+        return fault(Fault::BadCounter, k);
     };
     execute(a, o, k, ram, w)
 }

@@ -10,14 +10,16 @@ use Rattle.memory.specs.Processor.{Processor}
 use borrow.Author.Tests.{eq-eqb, eqb-true}
 use lib.Dec.{eqb}
 use lib.ListN.{length}
-use Rattle.state.specs.Answers.{numberOf, completedOf}
-use Rattle.state.specs.State.{coreOf}
+use Rattle.answers.specs.Answers.{numberOf, completedOf}
+use Rattle.state.specs.Live.{coreOf}
 use Rattle.state.specs.declared.Activity.the-variants as A
-use Rattle.state.specs.declared.answers.Answer.the-variants.{Running, Stopped}
+use Rattle.answers.specs.declared.Answer.the-variants.{Running, Stopped}
 use Rattle.transfers.specs.declared.Moved.{Moved}
-use Rattle.transfers.specs.Transfers.{View, viewFrom, Outcome, running, outcome, changeOf}
+use Rattle.transfers.specs.Loop.{running, changeOf}
+use Rattle.transfers.specs.Transfers.{View, viewFrom, Outcome, outcome}
 use Rattle.cpu.specs.Step.{advanceOf}
-use Rattle.cycle.specs.Runs.{runsOf, restOf, cut, leftOf, goneWith}
+use Rattle.cycle.specs.Loop.{leftOf, goneWith}
+use Rattle.cycle.specs.Runs.{runsOf, restOf, cut}
 
 pub stopped : (P : Processor) (b n : ℕ) (ram : List ℕ) (v : View) → length ram ≡ P .size → v .core .activity ≡ A.Stopped → runsOf P b n ram v ≡ record { answer = Stopped; steps = n; view = v; ram = ram }
 unfolding runsOf advanceOf

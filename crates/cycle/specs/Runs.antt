@@ -2,18 +2,14 @@
 use Prim.Native.Nat.{ℕ, zero, suc, _+_}
 use mathlib.Core.Bool.{cond}
 use mathlib.Core.List.{List}
-use lib.Dec.{eqb}
 use Rattle.memory.specs.Processor.{Processor}
-use Rattle.state.specs.declared.live.Live.{Live}
 use Rattle.state.specs.declared.Activity.{Activity}
 use Rattle.state.specs.declared.Activity.the-variants as A
-use Rattle.state.specs.declared.answers.Answer.{Answer}
-use Rattle.state.specs.declared.answers.Answer.the-variants.{Running, Stopped}
-use Rattle.state.specs.Answers.{numberOf, completedOf}
-use Rattle.state.specs.State.{coreOf}
-use Rattle.transfers.specs.Transfers.{running, View, viewFrom, Outcome}
+use Rattle.answers.specs.declared.Answer.{Answer}
+use Rattle.answers.specs.declared.Answer.the-variants.{Running, Stopped}
+use Rattle.answers.specs.Answers.{completedOf}
+use Rattle.transfers.specs.Transfers.{View, Outcome}
 use Rattle.cpu.specs.Step.{advanceOf}
-use Rattle.cycle.specs.declared.Gone.{Gone}
 
 -- The answer, the steps counted, and the state and RAM that they left.
 pub record Runs : Type 0 where
@@ -26,14 +22,6 @@ pub record Runs : Type 0 where
 abbrev pub restOf : Activity → Answer
 restOf A.Running = Running
 restOf A.Stopped = Stopped
-
--- How a run ends at an instruction after n steps: "a stop on the last budgeted step" is a step, and "A fault is not counted".
-abbrev pub leftOf : Answer → Live → ℕ → Gone
-leftOf answer k n =
-    cond (eqb (numberOf answer) 1) (record { answer = Stopped; steps = n + 1; core = coreOf A.Stopped k }) (record { answer = answer; steps = n; core = running k })
-
-abbrev pub goneWith : Gone → List ℕ → List ℕ → List ℕ → Runs
-goneWith r a o ram = record { answer = r .answer; steps = r .steps; view = viewFrom a o (r .core); ram = ram }
 
 -- A run that is cut short after n steps.
 abbrev pub cut : ℕ → Outcome → Runs

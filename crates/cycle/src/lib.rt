@@ -3,12 +3,14 @@ ghost use mathlib.Core.Path.{_≡_};
 ghost use Rattle.memory.specs.Processor.{gpu};
 ghost use Prim.Native.Nat.{_+_, _^_, _<_};
 ghost use lib.ListN.{length};
-ghost use Rattle.transfers.specs.Transfers.{viewFrom, running};
-ghost use Rattle.cycle.specs.Runs.{leftOf, goneWith, runsOf};
+ghost use Rattle.transfers.specs.Loop.{running};
+ghost use Rattle.transfers.specs.Transfers.{viewFrom};
+ghost use Rattle.cycle.specs.Loop.{leftOf, goneWith};
+ghost use Rattle.cycle.specs.Runs.{runsOf};
+use answers::Answer;
 use cpu::advance;
 use state::Activity;
 use state::Core;
-use state::answers::Answer;
 use state::live::Live;
 
 // How a run ends: the registers stand in the two banks that were lent.

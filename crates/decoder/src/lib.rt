@@ -1,20 +1,21 @@
 // Words to instructions.
 ghost use mathlib.Core.Path.{_≡_};
 ghost use mathlib.Core.Bool.{cond};
-ghost use Rattle.isa.specs.declared.Decoded.the-variants.{Built, NotBuilt};
-ghost use Rattle.isa.specs.Words.{decodedAt, decodeOf};
+ghost use Rattle.isa.specs.declared.Decoded.the-variants.{Built};
+ghost use Rattle.isa.specs.Words.{noInstruction, decodedAt, decodeOf};
 ghost use Rattle.isa.specs.RoundTrip.{Decodes};
+use answers::Fault;
 use isa::Decoded;
 use isa::Instr;
 
 // An instruction that is built only where a field is zero.
 fn only(zero: bool, i: Instr) -> Decoded
-    ensures { λ r. ⌜ r ≡ cond zero (Built i) NotBuilt ⌝ }
+    ensures { λ r. ⌜ r ≡ cond zero (Built i) noInstruction ⌝ }
 {
     if zero {
         Decoded::Built(i)
     } else {
-        Decoded::NotBuilt
+        Decoded::Refused(Fault::NotBuilt)
     }
 }
 
@@ -76,14 +77,14 @@ fn decoded_at(op: u32, s: u32, d: u32) -> Decoded
         57 => if s == 0 {
             only(d == 0, Instr::Nop)
         } else {
-            Decoded::NotBuilt
+            Decoded::Refused(Fault::NotBuilt)
         },
         58 => Decoded::Built(Instr::LoadR14r(s, d)),
         59 => Decoded::Built(Instr::LoadR15r(s, d)),
         60 => Decoded::Built(Instr::StoreR14r(s, d)),
         61 => Decoded::Built(Instr::StoreR15r(s, d)),
         62 => only(s == 0, Instr::Sat24(d)),
-        _ => Decoded::NotBuilt,
+        _ => Decoded::Refused(Fault::NotBuilt),
     }
 }
 

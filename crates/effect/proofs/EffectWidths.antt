@@ -1,6 +1,6 @@
 -- What an instruction computes fits: words of 32 bits and flags of one bit, where its operands do.
 -- Assumes nothing.
-use Prim.Native.Nat.{ℕ, _/_, _%_, _^_, _<_, _≤_}
+use Prim.Native.Nat.{ℕ, _/_, _%_, _^_, _<_}
 use mathlib.Core.Bool.{Bool, true, false, cond}
 use mathlib.Core.List.{List, [], _∷_}
 use native.Mathlib.Omega.{arith}
@@ -10,7 +10,7 @@ use Rattle.isa.specs.declared.Instr.the-variants.{Load, Store, Jump, Nop}
 use Rattle.isa.specs.declared.Decoded.the-variants as D
 use Rattle.field.specs.Fields.{quickOf, signedFieldOf}
 use Rattle.isa.specs.Table.{formOf, instructions}
-use Rattle.isa.specs.Words.{opcodeIn, among, instructionAt, built, decodedAt, decodeOf}
+use Rattle.isa.specs.Words.{noInstruction, opcodeIn, among, instructionAt, built, decodedAt, decodeOf}
 use Rattle.values.specs.Signed.{unsignedOf}
 use Rattle.effect.specs.declared.Operands.{Operands}
 use Rattle.effect.specs.declared.Effect.{Effect}
@@ -18,30 +18,30 @@ use Rattle.effect.specs.declared.Effect.the-variants as E
 use Rattle.effect.specs.Effects.{effectOf, effectIn}
 use Rattle.effect.proofs.Widths.{Fit, FlagsFit, bit-fits, flags-fit, abs-fit, left-fit, right-fit, right-signed-fit, rotate-fit, sh-fit, sha-fit, add-fit, addc-fit, sub-fit, subc-fit, div-fits, and-fit, or-fit, xor-fit, not-fit, bset-fit, bclr-fit, mult-fit, imult-fit, saturated-fit, mtoi-fit, normi-fit}
 
--- operands of 32 bits, with flags below m
-pub record OperandsFit (m : ℕ) (x : Operands) : Type 0 where
+-- operands of 32 bits, and bits as flags
+pub record OperandsFit (x : Operands) : Type 0 where
   pub s-fits : x .s < 2 ^ 32
   pub d-fits : x .d < 2 ^ 32
   pub acc-fits : x .acc < 2 ^ 32
-  pub n-fits : x .n < m
-  pub c-fits : x .c < m
+  pub n-fits : x .n < 2
+  pub c-fits : x .c < 2
 
-abbrev pub EffectFits : ℕ → Effect → Type 0
-EffectFits m E.NotBuilt = Unit {0}
-EffectFits m E.Nothing = Unit {0}
-EffectFits m (E.Write d r) = Fit m r
-EffectFits m (E.Keep d n) = n < 2 ^ 32
-EffectFits m (E.Flags f) = FlagsFit m f
-EffectFits m (E.Divide d q) = (q .quotient < 2 ^ 32) × (q .remainder < 2 ^ 32)
-EffectFits m (E.Product r) = Fit m r
-EffectFits m (E.Accumulate n) = n < 2 ^ 32
-EffectFits m (E.ToOther d n) = n < 2 ^ 32
-EffectFits m (E.FromOther s d) = Unit {0}
-EffectFits m (E.Immediate d) = Unit {0}
-EffectFits m (E.Counter d) = Unit {0}
-EffectFits m (E.Jump condition target) = target < 2 ^ 32
-EffectFits m (E.Load d address) = Unit {0}
-EffectFits m (E.Store address n) = n < 2 ^ 32
+abbrev pub EffectFits : Effect → Type 0
+EffectFits (E.Refused f) = Unit {0}
+EffectFits E.Nothing = Unit {0}
+EffectFits (E.Write d r) = Fit r
+EffectFits (E.Keep d n) = n < 2 ^ 32
+EffectFits (E.Flags f) = FlagsFit f
+EffectFits (E.Divide d q) = (q .quotient < 2 ^ 32) × (q .remainder < 2 ^ 32)
+EffectFits (E.Product r) = Fit r
+EffectFits (E.Accumulate n) = n < 2 ^ 32
+EffectFits (E.ToOther d n) = n < 2 ^ 32
+EffectFits (E.FromOther s d) = Unit {0}
+EffectFits (E.Immediate d) = Unit {0}
+EffectFits (E.Counter d) = Unit {0}
+EffectFits (E.Jump condition target) = target < 2 ^ 32
+EffectFits (E.Load d address) = Unit {0}
+EffectFits (E.Store address n) = n < 2 ^ 32
 
 quick-fits : (q : ℕ) → quickOf q < 2 ^ 32
 quick-fits q = go (eqb (q % 32) 0)
@@ -69,46 +69,46 @@ module _ (Q : Instr → Type 0) (op : ℕ) (none : Q Nop) where
       go later true = h .0
       go later false = later
 
-module _ (m : ℕ) (two : 2 ≤ m) (a : List ℕ) (x : Operands) (h : OperandsFit m x) where
+module _ (a : List ℕ) (x : Operands) (h : OperandsFit x) where
   -- in the order of the table
-  each : (s d : ℕ) → s < 2 ^ 32 → Each (λ i. EffectFits m (effectOf i a x)) (instructions s d)
-  each s d small =
-      add-fit m two (x .d) (h .d-fits) (x .s) (h .s-fits)
-      ⊗ addc-fit m two (x .d) (h .d-fits) (x .s) (h .s-fits) (x .c)
-      ⊗ add-fit m two (x .d) (h .d-fits) (quickOf s) (quick-fits s)
-      ⊗ add-fit m two (x .d) (h .d-fits) (quickOf s) (quick-fits s) .value-fits
-      ⊗ sub-fit m two (x .d) (h .d-fits) (x .s)
-      ⊗ subc-fit m two (x .d) (h .d-fits) (x .s) (x .c)
-      ⊗ sub-fit m two (x .d) (h .d-fits) (quickOf s)
-      ⊗ sub-fit m two (x .d) (h .d-fits) (quickOf s) .value-fits
-      ⊗ sub-fit m two 0 (omega arith) (x .d)
-      ⊗ and-fit m two (x .c) (h .c-fits) (x .d) (x .s) (h .d-fits)
-      ⊗ or-fit m two (x .c) (h .c-fits) (x .d) (x .s) (h .d-fits) (h .s-fits)
-      ⊗ xor-fit m two (x .c) (h .c-fits) (x .d) (x .s) (h .d-fits) (h .s-fits)
-      ⊗ not-fit m two (x .c) (h .c-fits) (x .d)
-      ⊗ record { z-fits = bit-fits m two (eqb (x .d / 2 ^ (s % 32) % 2) 0); n-fits = h .n-fits; c-fits = h .c-fits }
-      ⊗ bset-fit m two (x .c) (h .c-fits) (x .d) s (h .d-fits)
-      ⊗ bclr-fit m two (x .c) (h .c-fits) (x .d) s (h .d-fits)
-      ⊗ mult-fit m two (x .c) (h .c-fits) (x .d) (x .s)
-      ⊗ imult-fit m two (x .c) (h .c-fits) (x .d) (x .s)
-      ⊗ imult-fit m two (x .c) (h .c-fits) (x .d) (x .s)
+  each : (s d : ℕ) → Each (λ i. EffectFits (effectOf i a x)) (instructions s d)
+  each s d =
+      add-fit (x .d) (h .d-fits) (x .s) (h .s-fits)
+      ⊗ addc-fit (x .d) (h .d-fits) (x .s) (h .s-fits) (x .c)
+      ⊗ add-fit (x .d) (h .d-fits) (quickOf s) (quick-fits s)
+      ⊗ add-fit (x .d) (h .d-fits) (quickOf s) (quick-fits s) .value-fits
+      ⊗ sub-fit (x .d) (h .d-fits) (x .s)
+      ⊗ subc-fit (x .d) (h .d-fits) (x .s) (x .c)
+      ⊗ sub-fit (x .d) (h .d-fits) (quickOf s)
+      ⊗ sub-fit (x .d) (h .d-fits) (quickOf s) .value-fits
+      ⊗ sub-fit 0 (omega arith) (x .d)
+      ⊗ and-fit (x .c) (h .c-fits) (x .d) (x .s) (h .d-fits)
+      ⊗ or-fit (x .c) (h .c-fits) (x .d) (x .s) (h .d-fits) (h .s-fits)
+      ⊗ xor-fit (x .c) (h .c-fits) (x .d) (x .s) (h .d-fits) (h .s-fits)
+      ⊗ not-fit (x .c) (h .c-fits) (x .d)
+      ⊗ record { z-fits = bit-fits (eqb (x .d / 2 ^ (s % 32) % 2) 0); n-fits = h .n-fits; c-fits = h .c-fits }
+      ⊗ bset-fit (x .c) (h .c-fits) (x .d) s (h .d-fits)
+      ⊗ bclr-fit (x .c) (h .c-fits) (x .d) s (h .d-fits)
+      ⊗ mult-fit (x .c) (h .c-fits) (x .d) (x .s)
+      ⊗ imult-fit (x .c) (h .c-fits) (x .d) (x .s)
+      ⊗ imult-fit (x .c) (h .c-fits) (x .d) (x .s)
       ⊗ h .acc-fits
       ⊗ omega arith
-      ⊗ div-fits m two (x .d) (h .d-fits) (x .s) (h .s-fits) (x .mode)
-      ⊗ abs-fit m two (x .d) (h .d-fits)
-      ⊗ sh-fit m two (x .d) (h .d-fits) (x .s)
-      ⊗ left-fit m two (x .d) (h .d-fits) (quickOf s)
-      ⊗ right-fit m two (x .d) (h .d-fits) (quickOf s)
-      ⊗ sha-fit m two (x .d) (h .d-fits) (x .s)
-      ⊗ right-signed-fit m two (x .d) (h .d-fits) (quickOf s)
-      ⊗ rotate-fit m two (x .d) (h .d-fits) (x .s)
-      ⊗ rotate-fit m two (x .d) (h .d-fits) (quickOf s)
-      ⊗ flags-fit m two _ (sub-fit m two (x .d) (h .d-fits) (x .s))
-      ⊗ flags-fit m two _ (sub-fit m two (x .d) (h .d-fits) (unsignedOf (signedFieldOf s)))
-      ⊗ saturated-fit m two (x .c) (h .c-fits) 255 (x .d) (omega arith)
-      ⊗ saturated-fit m two (x .c) (h .c-fits) 65535 (x .d) (omega arith)
+      ⊗ div-fits (x .d) (h .d-fits) (x .s) (h .s-fits) (x .mode)
+      ⊗ abs-fit (x .d) (h .d-fits)
+      ⊗ sh-fit (x .d) (h .d-fits) (x .s)
+      ⊗ left-fit (x .d) (h .d-fits) (quickOf s)
+      ⊗ right-fit (x .d) (h .d-fits) (quickOf s)
+      ⊗ sha-fit (x .d) (h .d-fits) (x .s)
+      ⊗ right-signed-fit (x .d) (h .d-fits) (quickOf s)
+      ⊗ rotate-fit (x .d) (h .d-fits) (x .s)
+      ⊗ rotate-fit (x .d) (h .d-fits) (quickOf s)
+      ⊗ flags-fit _ (sub-fit (x .d) (h .d-fits) (x .s))
+      ⊗ flags-fit _ (sub-fit (x .d) (h .d-fits) (unsignedOf (signedFieldOf s)))
+      ⊗ saturated-fit (x .c) (h .c-fits) 255 (x .d) (omega arith)
+      ⊗ saturated-fit (x .c) (h .c-fits) 65535 (x .d) (omega arith)
       ⊗ h .s-fits
-      ⊗ small
+      ⊗ omega arith
       ⊗ h .s-fits
       ⊗ tt
       ⊗ tt
@@ -121,23 +121,23 @@ module _ (m : ℕ) (two : 2 ≤ m) (a : List ℕ) (x : Operands) (h : OperandsFi
       ⊗ tt
       ⊗ h .s-fits
       ⊗ omega arith
-      ⊗ mtoi-fit m two (x .c) (h .c-fits) (x .s)
-      ⊗ normi-fit m two (x .c) (h .c-fits) (x .s)
+      ⊗ mtoi-fit (x .c) (h .c-fits) (x .s)
+      ⊗ normi-fit (x .c) (h .c-fits) (x .s)
       ⊗ tt
       ⊗ tt
       ⊗ tt
       ⊗ h .d-fits
       ⊗ h .d-fits
-      ⊗ saturated-fit m two (x .c) (h .c-fits) 16777215 (x .d) (omega arith)
+      ⊗ saturated-fit (x .c) (h .c-fits) 16777215 (x .d) (omega arith)
       ⊗ tt
 
-  decoded : (op s d : ℕ) → s < 2 ^ 32 → EffectFits m (effectIn (decodedAt op s d) a x)
+  decoded : (op s d : ℕ) → EffectFits (effectIn (decodedAt op s d) a x)
   unfolding decodedAt instructionAt
-  decoded op s d small = go (built op (eqb s 0) (eqb d 0))
+  decoded op s d = go (built op (eqb s 0) (eqb d 0))
     where
-      go : (t : Bool) → EffectFits m (effectIn (cond t (D.Built (among op (instructions s d))) D.NotBuilt) a x)
-      go true = found (λ i. EffectFits m (effectOf i a x)) op tt (instructions s d) (each s d small)
+      go : (t : Bool) → EffectFits (effectIn (cond t (D.Built (among op (instructions s d))) noInstruction) a x)
+      go true = found (λ i. EffectFits (effectOf i a x)) op tt (instructions s d) (each s d)
       go false = tt
 
-  pub effect-fits : (w : ℕ) → EffectFits m (effectIn (decodeOf w) a x)
-  effect-fits w = decoded (w / 1024) (w / 32 % 32) (w % 32) (omega arith)
+  pub effect-fits : (w : ℕ) → EffectFits (effectIn (decodeOf w) a x)
+  effect-fits w = decoded (w / 1024) (w / 32 % 32) (w % 32)

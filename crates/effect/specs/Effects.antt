@@ -8,6 +8,7 @@ use Rattle.isa.specs.declared.Instr.{Instr}
 use Rattle.isa.specs.declared.Instr.the-variants.{Add, Addc, Addq, Addqt, Sub, Subc, Subq, Subqt, Neg, And, Or, Xor, Not, Btst, Bset, Bclr, Mult, Imult, Imultn, Resmac, Imacn, Div, Abs, Sh, Shlq, Shrq, Sha, Sharq, Ror, Rorq, Cmp, Cmpq, Sat8, Sat16, Move, Moveq, Moveta, Movefa, Movei, Load, LoadR14n, LoadR15n, Store, StoreR14n, StoreR15n, MovePc, Jump, Jr, Mtoi, Normi, Nop, LoadR14r, LoadR15r, StoreR14r, StoreR15r, Sat24}
 use Rattle.isa.specs.declared.Decoded.{Decoded}
 use Rattle.isa.specs.declared.Decoded.the-variants as D
+use Rattle.answers.specs.declared.Fault.the-variants.{NotBuilt}
 use Rattle.field.specs.Fields.{quickOf, signedFieldOf}
 use Rattle.values.specs.declared.Flags.{Flags}
 use Rattle.alu.specs.Add.{addOf, addcOf, subOf, subcOf, negOf, absOf, cmpOf, cmpqOf}
@@ -21,7 +22,7 @@ use Rattle.shifter.specs.Normalise.{mtoiOf, normiOf}
 use Rattle.effect.specs.declared.Operands.{Operands}
 use Rattle.effect.specs.declared.Effect.{Effect}
 use Rattle.effect.specs.declared.Effect.the-variants as E
-use Rattle.effect.specs.declared.Effect.the-variants.{NotBuilt, Nothing, Write, Keep, Divide, Product, Accumulate, ToOther, FromOther, Immediate, Counter}
+use Rattle.effect.specs.declared.Effect.the-variants.{Refused, Nothing, Write, Keep, Divide, Product, Accumulate, ToOther, FromOther, Immediate, Counter}
 
 abbrev pub flagsIn : Operands → Flags
 flagsIn x = record { z = x .z; n = x .n; c = x .c }
@@ -67,7 +68,7 @@ effectOf (Cmpq n d) a x = E.Flags (cmpqOf (x .d) (signedFieldOf n))
 effectOf (Sat8 d) a x = Write d (sat8Of (x .d) (x .c))
 effectOf (Sat16 d) a x = Write d (sat16Of (x .d) (x .c))
 effectOf (Move s d) a x = Keep d (x .s)
-effectOf (Moveq u d) a x = Keep d u
+effectOf (Moveq u d) a x = Keep d (u % 32)
 effectOf (Moveta s d) a x = ToOther d (x .s)
 effectOf (Movefa s d) a x = FromOther s d
 effectOf (Movei d) a x = Immediate d
@@ -92,8 +93,8 @@ effectOf (Sat24 d) a x = Write d (sat24Of (x .d) (x .c))
 -- Of a word that is an instruction, or of one that is none.
 abbrev pub effectIn : Decoded → List ℕ → Operands → Effect
 effectIn (D.Built i) a x = effectOf i a x
-effectIn D.NotBuilt a x = NotBuilt
+effectIn (D.Refused f) a x = Refused f
 
 -- "all ten bits for 57"
 abbrev pub nopOf : Bool → Bool → Effect
-nopOf noSource noDestination = cond noSource (cond noDestination Nothing NotBuilt) NotBuilt
+nopOf noSource noDestination = cond noSource (cond noDestination Nothing (Refused NotBuilt)) (Refused NotBuilt)

@@ -21,6 +21,7 @@ use alu::logic::btst;
 use alu::logic::not;
 use alu::logic::or;
 use alu::logic::xor;
+use answers::Fault;
 use branch::jr_target;
 use field::quick;
 use field::quick_bytes;
@@ -60,7 +61,7 @@ pub struct Operands {
 }
 
 pub enum Effect {
-    NotBuilt,
+    Refused(Fault),
     Nothing,
     // The register gets the value, and the flags follow it.
     Write(Reg, Computed),
@@ -124,10 +125,10 @@ fn nop(s: u32, d: u32) -> Effect
         if d == 0 {
             Effect::Nothing
         } else {
-            Effect::NotBuilt
+            Effect::Refused(Fault::NotBuilt)
         }
     } else {
-        Effect::NotBuilt
+        Effect::Refused(Fault::NotBuilt)
     }
 }
 
@@ -139,8 +140,8 @@ fn indexed(a: &[u32; 32], base: usize, offset: u32) -> u32
     std::num::wrapping_add_u32(a[base], offset)
 }
 
-// The effect of a word's three fields, with the active bank beside what it reads. One match takes a word to its operation, with no instruction in between;
-// the opcode table that decode is held to holds this too.
+// The effect of a word's three fields, with the active bank beside what it reads. One match takes a word to its operation, with
+// no instruction in between; the opcode table that decode is held to holds this too.
 pub fn effect_at(op: u32, s: u32, d: u32, a: &[u32; 32], x: Operands) -> Effect
     ensures { λ r. ⌜ r ≡ effectIn (decodedAt op s d) (now (a .entry)) x ⌝ }
 {
@@ -156,7 +157,7 @@ pub fn effect_at(op: u32, s: u32, d: u32, a: &[u32; 32], x: Operands) -> Effect
         8 => if s == 0 {
             Effect::Write(d, neg(x.d))
         } else {
-            Effect::NotBuilt
+            Effect::Refused(Fault::NotBuilt)
         },
         9 => Effect::Write(d, and(x.d, x.s, x.c)),
         10 => Effect::Write(d, or(x.d, x.s, x.c)),
@@ -164,7 +165,7 @@ pub fn effect_at(op: u32, s: u32, d: u32, a: &[u32; 32], x: Operands) -> Effect
         12 => if s == 0 {
             Effect::Write(d, not(x.d, x.c))
         } else {
-            Effect::NotBuilt
+            Effect::Refused(Fault::NotBuilt)
         },
         13 => Effect::Flags(tested(x, s)),
         14 => Effect::Write(d, bset(x.d, s, x.c)),
@@ -175,14 +176,14 @@ pub fn effect_at(op: u32, s: u32, d: u32, a: &[u32; 32], x: Operands) -> Effect
         19 => if s == 0 {
             Effect::Keep(d, x.acc)
         } else {
-            Effect::NotBuilt
+            Effect::Refused(Fault::NotBuilt)
         },
         20 => Effect::Accumulate(imacn(x.acc, x.d, x.s)),
         21 => Effect::Divide(d, div(x.d, x.s, x.mode)),
         22 => if s == 0 {
             Effect::Write(d, abs(x.d))
         } else {
-            Effect::NotBuilt
+            Effect::Refused(Fault::NotBuilt)
         },
         23 => Effect::Write(d, sh(x.d, x.s)),
         24 => Effect::Write(d, left(x.d, quick(s))),
@@ -196,21 +197,21 @@ pub fn effect_at(op: u32, s: u32, d: u32, a: &[u32; 32], x: Operands) -> Effect
         32 => if s == 0 {
             Effect::Write(d, sat8(x.d, x.c))
         } else {
-            Effect::NotBuilt
+            Effect::Refused(Fault::NotBuilt)
         },
         33 => if s == 0 {
             Effect::Write(d, sat16(x.d, x.c))
         } else {
-            Effect::NotBuilt
+            Effect::Refused(Fault::NotBuilt)
         },
         34 => Effect::Keep(d, x.s),
-        35 => Effect::Keep(d, s),
+        35 => Effect::Keep(d, s % 32),
         36 => Effect::ToOther(d, x.s),
         37 => Effect::FromOther(s, d),
         38 => if s == 0 {
             Effect::Immediate(d)
         } else {
-            Effect::NotBuilt
+            Effect::Refused(Fault::NotBuilt)
         },
         41 => Effect::Load(d, x.s),
         43 => Effect::Load(d, indexed(a, 14, quick_bytes(s))),
@@ -221,7 +222,7 @@ pub fn effect_at(op: u32, s: u32, d: u32, a: &[u32; 32], x: Operands) -> Effect
         51 => if s == 0 {
             Effect::Counter(d)
         } else {
-            Effect::NotBuilt
+            Effect::Refused(Fault::NotBuilt)
         },
         52 => Effect::Jump(d, x.s),
         53 => Effect::Jump(d, jr_target(x.pc, signed_field(s))),
@@ -235,17 +236,17 @@ pub fn effect_at(op: u32, s: u32, d: u32, a: &[u32; 32], x: Operands) -> Effect
         62 => if s == 0 {
             Effect::Write(d, sat24(x.d, x.c))
         } else {
-            Effect::NotBuilt
+            Effect::Refused(Fault::NotBuilt)
         },
         // Each opcode that is not built stands for itself, so that six bits need no test of their range.
-        39 => Effect::NotBuilt,
-        40 => Effect::NotBuilt,
-        42 => Effect::NotBuilt,
-        45 => Effect::NotBuilt,
-        46 => Effect::NotBuilt,
-        48 => Effect::NotBuilt,
-        54 => Effect::NotBuilt,
-        63 => Effect::NotBuilt,
-        _ => Effect::NotBuilt,
+        39 => Effect::Refused(Fault::NotBuilt),
+        40 => Effect::Refused(Fault::NotBuilt),
+        42 => Effect::Refused(Fault::NotBuilt),
+        45 => Effect::Refused(Fault::NotBuilt),
+        46 => Effect::Refused(Fault::NotBuilt),
+        48 => Effect::Refused(Fault::NotBuilt),
+        54 => Effect::Refused(Fault::NotBuilt),
+        63 => Effect::Refused(Fault::NotBuilt),
+        _ => Effect::Refused(Fault::NotBuilt),
     }
 }

@@ -17,8 +17,7 @@ use Rattle.text.proofs.Digits.{decimal-length}
 use Rattle.card.specs.declared.Card.{Card}
 use Rattle.card.specs.Text.{answerKey, stepsKey, pcKey, flagsKey, remainKey, accKey, cardText}
 use Rattle.advice.specs.Explanation.{said, explanationOf}
-use Rattle.template.specs.Fill.{filled}
-use Rattle.sentences.specs.Table.{runText}
+use Rattle.explain.specs.ReadsBack.{Fits, ReadsBack}
 use Rattle.parser.specs.declared.Reading.the-variants.{Card as Read, Check}
 use Rattle.scanner.specs.Lines.{number, none, Digits, decimal, hexadecimal, digitValue, numberIn, keyedIn}
 use Rattle.parser.specs.Readings.{checkOf, cardOf, readingOf}
@@ -116,30 +115,24 @@ hex-line key n t h =
     line-read hexadecimal key (hexDigits 8 n) t n
     (hex-read 8 n (10 ∷ t) (omega arith) (omega arith) (omega arith) ∙ feed hexadecimal n 8 t (omega arith))
 
--- The fields of a card are numbers of 32 bits.
-pub record Fits (card : Card) : Type 0 where
-  pub answer : card .answer < 2 ^ 32
-  pub steps : card .steps < 2 ^ 32
-  pub pc : card .pc < 2 ^ 32
-  pub flags : card .flags < 2 ^ 32
-  pub remainder : card .remainder < 2 ^ 32
-  pub accumulator : card .accumulator < 2 ^ 32
-
-pub round-trip : (card : Card) → Fits card → readingOf (cardText card) ≡ Read (card .answer) (card .steps) (card .pc)
+round-trip : (card : Card) → Fits card → readingOf (cardText card) ≡ Read (card .answer) (card .steps) (card .pc)
 unfolding readingOf cardOf cardText bytes
 round-trip card fits =
     rw (decimal-line answerKey (card .answer) _ (fits .answer), decimal-line stepsKey (card .steps) _ (fits .steps), hex-line pcKey (card .pc) _ (fits .pc), hex-line flagsKey (card .flags) _ (fits .flags), hex-line remainKey (card .remainder) _ (fits .remainder), ← append-nil (lineOf accKey (hexDigits 8 (card .accumulator))), hex-line accKey (card .accumulator) [] (fits .accumulator))
-
--- So what the run program prints is explained by its own answer, with its own counter and steps.
-pub explained : (card : Card) → Fits card → explanationOf (cardText card) ≡ filled (bytes (runText (card .answer))) (card .pc) (card .steps)
-unfolding explanationOf
-explained card fits = ap said (round-trip card fits)
 
 no-steps : (digits : List ℕ) → keyedIn decimal stepsKey (lineOf (bytes "address=") digits) ≡ none
 unfolding keyedIn lineOf bytes
 no-steps digits = refl
 
-pub check-round-trip : (answer address : ℕ) → answer < 2 ^ 32 → address < 2 ^ 32 → readingOf (checkText answer address) ≡ Check answer address
+check-round-trip : (answer address : ℕ) → answer < 2 ^ 32 → address < 2 ^ 32 → readingOf (checkText answer address) ≡ Check answer address
 unfolding readingOf checkOf checkText bytes
 check-round-trip answer address a b =
     rw (decimal-line answerKey answer _ a, no-steps (hexDigits 8 address), ← append-nil (lineOf (bytes "address=") (hexDigits 8 address)), hex-line (bytes "address=") address [] b)
+
+pub reads-back : ReadsBack
+unfolding explanationOf
+reads-back =
+    record {
+      cards = λ card fits. ap said (round-trip card fits);
+      checks = λ answer address a b. ap said (check-round-trip answer address a b);
+    }

@@ -10,10 +10,10 @@ use lib.Dec.{eqb, ltb}
 use Rattle.isa.specs.declared.Instr.{Instr}
 use Rattle.isa.specs.declared.Instr.the-variants.{Add, Addc, Addq, Addqt, Sub, Subc, Subq, Subqt, Neg, And, Or, Xor, Not, Btst, Bset, Bclr, Mult, Imult, Imultn, Resmac, Imacn, Div, Abs, Sh, Shlq, Shrq, Sha, Sharq, Ror, Rorq, Cmp, Cmpq, Sat8, Sat16, Move, Moveq, Moveta, Movefa, Movei, Load, LoadR14n, LoadR15n, Store, StoreR14n, StoreR15n, MovePc, Jump, Jr, Mtoi, Normi, Nop, LoadR14r, LoadR15r, StoreR14r, StoreR15r, Sat24}
 use Rattle.isa.specs.declared.Decoded.{Decoded}
-use Rattle.isa.specs.declared.Decoded.the-variants.{Built, NotBuilt}
+use Rattle.isa.specs.declared.Decoded.the-variants.{Built}
 use Rattle.isa.specs.declared.form.Form.{Form}
 use Rattle.isa.specs.Table.{formOf, instructions}
-use Rattle.isa.specs.Words.{wordOf, opcodeIn, sourceIn, destinationIn, oneOf, unbuiltOpcodes, built, instructionAt, decodedAt, encodeOf, decodeOf}
+use Rattle.isa.specs.Words.{noInstruction, wordOf, opcodeIn, sourceIn, destinationIn, oneOf, unbuiltOpcodes, built, instructionAt, decodedAt, encodeOf, decodeOf}
 use Rattle.isa.specs.RoundTrip.{WellFormed, isBuilt, builtWord, Decodes, Encodes}
 use Rattle.isa.proofs.Each.{each}
 
@@ -73,11 +73,11 @@ rows-or-not : (s d op : ℕ) → op < 64 → hasRow op (instructions s d) || one
 rows-or-not s d =
     each (λ op. hasRow op (instructions s d) || oneOf op unbuiltOpcodes) (λ op. true) 64 refl
 
-pub no-row : (op s d : ℕ) → NoneOf Unit op (instructions s d) → decodedAt op s d ≡ NotBuilt
+pub no-row : (op s d : ℕ) → NoneOf Unit op (instructions s d) → decodedAt op s d ≡ noInstruction
 unfolding decodedAt
 no-row op s d h = go (ltb op 64) refl
   where
-    go : (t : Bool) → ltb op 64 ≡ t → decodedAt op s d ≡ NotBuilt
+    go : (t : Bool) → ltb op 64 ≡ t → decodedAt op s d ≡ noInstruction
     go true e =
         let not-built : oneOf op unbuiltOpcodes ≡ true = rw (none-of Unit op (instructions s d) h .1) at (rows-or-not s d op (ltb-true op 64 e)) in
         rw (e, not-built)
@@ -91,7 +91,7 @@ module _ (w : ℕ) (small : w < 65536) where
       let d : destinationIn (formOf i) ≡ w % 32 = cc in
       (rw (s, d) (omega arith, omega arith), rw (op, s, d) (omega arith))
 
-  go : {r : Decoded} (t : Bool) → builtWord w ≡ t → r ≡ cond t (Built (instructionAt (w / 1024) (w / 32 % 32) (w % 32))) NotBuilt → Decodes w r
+  go : {r : Decoded} (t : Bool) → builtWord w ≡ t → r ≡ cond t (Built (instructionAt (w / 1024) (w / 32 % 32) (w % 32))) noInstruction → Decodes w r
   go true b e =
       record {
         exactly = ap isBuilt e ∙ sym b;

@@ -5,7 +5,7 @@ use mathlib.Core.Bool.{Bool, true, false}
 use lib.Dec.{eqb}
 use Rattle.isa.specs.declared.Instr.{Instr}
 use Rattle.isa.specs.declared.Decoded.{Decoded}
-use Rattle.isa.specs.declared.Decoded.the-variants.{Built, NotBuilt}
+use Rattle.isa.specs.declared.Decoded.the-variants.{Built, Refused}
 use Rattle.isa.specs.Table.{formOf}
 use Rattle.isa.specs.Words.{encodeOf, decodeOf, sourceIn, destinationIn, built}
 
@@ -15,7 +15,7 @@ builtWord w = built (w / 1024) (eqb (w / 32 % 32) 0) (eqb (w % 32) 0)
 
 abbrev pub isBuilt : Decoded → Bool
 isBuilt (Built i) = true
-isBuilt NotBuilt = false
+isBuilt (Refused f) = false
 
 -- Every operand is a field of five bits.
 abbrev pub WellFormed : Instr → Type 0

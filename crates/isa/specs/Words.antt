@@ -1,12 +1,13 @@
--- Instruction words: "Six bits opcode, five source, five destination."
+-- Instruction words: "Six bits opcode, five source, five destination".
 use Prim.Native.Nat.{ℕ, _+_, _*_, _/_, _%_}
 use mathlib.Core.Bool.{Bool, false, not, cond, _&&_, _||_}
 use mathlib.Core.List.{List, [], _∷_}
 use lib.Dec.{eqb, ltb}
 use Rattle.isa.specs.declared.Instr.{Instr}
 use Rattle.isa.specs.declared.Instr.the-variants.{Nop}
+use Rattle.answers.specs.declared.Fault.the-variants.{NotBuilt}
 use Rattle.isa.specs.declared.Decoded.{Decoded}
-use Rattle.isa.specs.declared.Decoded.the-variants.{Built, NotBuilt}
+use Rattle.isa.specs.declared.Decoded.the-variants.{Built, Refused}
 use Rattle.isa.specs.declared.form.Form.{Form}
 use Rattle.isa.specs.declared.form.Form.the-variants.{Two, One, Implied}
 use Rattle.isa.specs.Table.{formOf, instructions}
@@ -64,9 +65,13 @@ among op (i ∷ is) = cond (eqb (opcodeIn (formOf i)) op) i (among op is)
 unfoldable pub instructionAt : ℕ → ℕ → ℕ → Instr
 instructionAt op s d = among op (instructions s d)
 
+-- "word not built"
+abbrev pub noInstruction : Decoded
+noInstruction = Refused NotBuilt
+
 -- What three fields are.
 unfoldable pub decodedAt : ℕ → ℕ → ℕ → Decoded
-decodedAt op s d = cond (built op (eqb s 0) (eqb d 0)) (Built (instructionAt op s d)) NotBuilt
+decodedAt op s d = cond (built op (eqb s 0) (eqb d 0)) (Built (instructionAt op s d)) noInstruction
 
 -- The instruction that a word is, if it is built.
 abbrev pub decodeOf : ℕ → Decoded

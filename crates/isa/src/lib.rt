@@ -2,6 +2,8 @@
 //
 // The numbers are those of source document 001, section 5.0; which words are built is paper 01's, "Words".
 
+use answers::Fault;
+
 mod form;
 mod word;
 
@@ -80,8 +82,8 @@ pub enum Instr {
     Sat24(Reg),
 }
 
-// What a word is.
+// What a word is: an instruction, or the refusal.
 pub enum Decoded {
     Built(Instr),
-    NotBuilt,
+    Refused(Fault),
 }

@@ -3,8 +3,8 @@
 ghost use mathlib.Core.Path.{_≡_};
 ghost use Rattle.memory.specs.Processor.{gpu};
 ghost use Rattle.rules.specs.Check.{checkOf};
-ghost use Rattle.rules.specs.Safety.{IsRam, IsState};
-ghost use Rattle.block.specs.Block.{stateAt};
+ghost use Rattle.rules.specs.Safety.{Demand3, Tells, GoesOn};
+ghost use Rattle.machine.specs.Types.{IsBytes};
 ghost use Rattle.calls.specs.Call.{called, callOf, checkReply};
 ghost use Rattle.calls.specs.Display.{Display};
 use block::is_valid;
@@ -14,11 +14,11 @@ use loading::check;
 use machine::run;
 use memory::long_at;
 
-// The second promise: what demand 3 assumes of RAM and of a state is so in every call.
+// The second promise: what `Display` assumes of the buffers is so in every call.
 #[no_mangle]
 pub extern "C" fn gpu_run(ram: &mut [u8], block: &mut [u8], budget: u64) -> u64
     ensures { λ r. ⌜ called r (now (ram .exit)) (now (block .exit)) ≡ callOf (now (ram .entry)) (now (block .entry)) budget ⌝ }
-    ensures { λ _. ⌜ IsRam (now (ram .entry)) × IsState (stateAt (now (block .entry))) ⌝ }
+    ensures { λ _. ⌜ IsBytes (now (ram .entry)) × IsBytes (now (block .entry)) ⌝ }
 {
     if ram.len() != 4096 {
         return 31;
@@ -40,10 +40,12 @@ pub extern "C" fn gpu_run(ram: &mut [u8], block: &mut [u8], budget: u64) -> u64
     answer.number() as u64 + 256 * r.steps as u64
 }
 
-// The second promise: what a reply of 0 means for every call of gpu_run after it.
+// The second promise is demand 3, with what each refusal tells and how an admitted program goes on. The third says what a reply
+// of 0 means for every call of gpu_run after it.
 #[no_mangle]
 pub extern "C" fn gpu_check(ram: &[u8], code_len: u64) -> u64
     ensures { λ r. ⌜ r ≡ checkReply (checkOf gpu (now (ram .entry)) «code_len») ⌝ }
+    ensures { λ _. ⌜ Demand3 gpu × Tells gpu × GoesOn gpu ⌝ }
     ensures { λ _. ⌜ Display ⌝ }
 {
     let v = check(ram, code_len);

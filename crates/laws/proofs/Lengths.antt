@@ -21,7 +21,7 @@ use Rattle.state.specs.declared.Pending.{Pending}
 use Rattle.state.specs.declared.Pending.the-variants.{None, At}
 use Rattle.state.specs.declared.Activity.{Activity}
 use Rattle.state.specs.declared.Activity.the-variants as A
-use Rattle.state.specs.declared.answers.Answer.the-variants.{RamLength}
+use Rattle.answers.specs.declared.Answer.the-variants.{RamLength}
 use Rattle.transfers.specs.declared.Loaded.{Loaded}
 use Rattle.transfers.specs.declared.Loaded.the-variants as L
 use Rattle.memory.specs.declared.Immediate.{Immediate}
@@ -55,12 +55,11 @@ module _ (P : Processor) (r b : ℕ) (ram : List ℕ) (v : View) (h : Lengths r 
       record { ram-length = h .ram-length; active-length = c .0; other-length = c .1 }
   stored n M.Control = kept _ _ refl
   stored n M.Divide = kept _ _ refl
-  stored n M.Misaligned = kept _ _ refl
-  stored n M.Unmapped = kept _ _ refl
+  stored n (M.Refused f) = kept _ _ refl
 
   immediate : (d : ℕ) (i : Immediate) → length (immediateWritten (v .active) (v .core) d i .active) ≡ length (v .active)
   immediate d (I.Long n) = simp length-set
-  immediate d I.Outside = refl
+  immediate d (I.Refused f) = refl
 
   move-immediate : (d : ℕ) (p : Pending) → length (moveImmediateOf P ram (v .active) (v .core) p d .active) ≡ length (v .active)
   move-immediate d (At t) = refl
@@ -72,12 +71,11 @@ module _ (P : Processor) (r b : ℕ) (ram : List ℕ) (v : View) (h : Lengths r 
 
   move-loaded : (d : ℕ) (l : Loaded) → length (moveLoadedOf (v .active) (v .core) d l .active) ≡ length (v .active)
   move-loaded d (L.Long n) = simp length-set
-  move-loaded d L.Misaligned = refl
-  move-loaded d L.Unmapped = refl
+  move-loaded d (L.Refused f) = refl
 
   applied : (e : Effect) → Keeps r b (applyOf P ram v e)
   unfolding applyOf
-  applied E.NotBuilt = kept _ _ refl
+  applied (E.Refused f) = kept _ _ refl
   applied E.Nothing = kept _ _ refl
   applied (E.Write d c) = kept _ _ (simp length-set)
   applied (E.Keep d n) = kept _ _ (simp length-set)
@@ -98,7 +96,7 @@ module _ (P : Processor) (r b : ℕ) (ram : List ℕ) (v : View) (h : Lengths r 
   fetched : (f : Fetched) → Keeps r b (fetchedOf P ram v f)
   unfolding executeOf
   fetched (F.Word w) = applied (effectIn (decodeOf w) (v .active) (operandsOf (v .active) (v .core) w))
-  fetched F.Outside = kept _ _ refl
+  fetched (F.Refused f) = kept _ _ refl
 
   acted : (a : Activity) → Keeps r b (activeOf P ram v a)
   acted A.Running = fetched (fetchOf P ram (v .core .pc))

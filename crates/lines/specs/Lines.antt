@@ -4,7 +4,7 @@ use mathlib.Core.List.{List, [], _∷_, _++_}
 use Rattle.text.specs.Bytes.{bytes}
 use Rattle.text.specs.Digits.{hexDigits, decimalOf}
 
--- A line: a key, a value, and "a line feed after every line".
+-- A line: a key, a value, and a line feed, as paper 01 shows the card.
 unfoldable pub lineOf : List ℕ → List ℕ → List ℕ
 lineOf key value = key ++ (value ++ (10 ∷ []))
 

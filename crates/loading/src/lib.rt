@@ -1,34 +1,44 @@
 // The loading check: the refusals in their order, each rule over the whole code, lowest address first.
 ghost use mathlib.Core.Path.{_≡_};
-ghost use Prim.Native.Nat.{_+_, _≤_, _<_};
+ghost use Prim.Native.Nat.{_≤_};
 ghost use lib.ListN.{length};
 ghost use Rattle.memory.specs.Processor.{gpu};
-ghost use Rattle.rules.specs.Check.{isLength, rulesOf, checkOf};
-ghost use Rattle.rules.specs.Safety.{Demand3};
-ghost use Rattle.loading.specs.Told.{toldOf};
+ghost use Rattle.rules.specs.Verdicts.{ruleOf};
+ghost use Rattle.rules.specs.Check.{orElse, isLength, rulesOf, checkOf};
+ghost use Rattle.rules.specs.KnownRows.{KnownRows};
+ghost use Rattle.rules.specs.Safety.{Demand3, Tells, GoesOn};
 use accesses::first_access;
 use passes::first_broken;
 use passes::lowest_broken;
 use reading::mark_code;
+use rules::Hit;
+use rules::Rule;
 use rules::Verdict;
 
-// One of the rules 1 to 6 is broken at offset i.
-fn told(rule: u32, i: usize) -> Verdict
-    requires { ⌜ i < 4096 ⌝ }
-    ensures { λ r. ⌜ r ≡ toldOf rule (0xF03000 + i) ⌝ }
+fn rule_of(n: u32) -> Rule
+    ensures { λ r. ⌜ r ≡ ruleOf n ⌝ }
 {
-    let a = 0xF03000 + i as u32;
-    match rule {
-        1 => Verdict::NotBuilt(a),
-        2 => Verdict::JrTarget(a),
-        3 => Verdict::JumpTarget(a),
-        4 => Verdict::DelaySlot(a),
-        5 => Verdict::Ending(a),
-        _ => Verdict::Access(a),
+    match n {
+        1 => Rule::AllBuilt,
+        2 => Rule::JrTarget,
+        3 => Rule::JumpTarget,
+        4 => Rule::DelaySlot,
+        5 => Rule::Ending,
+        _ => Rule::Access,
     }
 }
 
-// The six rules, each over the whole code. Where a rule is broken, one more pass finds where.
+// A rule is broken where its pass found an instruction.
+fn told(rule: Rule, h: Hit) -> Verdict
+    ensures { λ r. ⌜ r ≡ orElse h (Verdict.Broken rule) Verdict.Admitted ⌝ }
+{
+    match h {
+        Hit::Clear => Verdict::Admitted,
+        Hit::At(a) => Verdict::Broken(rule, a),
+    }
+}
+
+// The six rules, each over the whole code. One pass finds which of the first five is broken, and only then another where.
 fn rules(code: &[u8]) -> Verdict
     requires { ⌜ length (now code) ≤ 4096 ⌝ }
     ensures { λ r. ⌜ r ≡ rulesOf gpu (now (code .entry)) ⌝ }
@@ -36,15 +46,11 @@ fn rules(code: &[u8]) -> Verdict
     let mut starts = [false; 4104];
     let mut targets = [false; 4104];
     mark_code(code, &mut starts, &mut targets);
-    let rule = lowest_broken(code, &starts, &targets);
-    if rule < 6 {
-        return told(rule, first_broken(rule, code, &starts, &targets));
+    let n = lowest_broken(code, &starts, &targets);
+    if n < 6 {
+        return told(rule_of(n), first_broken(n, code, &starts, &targets));
     }
-    let i = first_access(code, &targets);
-    if i < code.len() {
-        return told(6, i);
-    }
-    Verdict::Admitted
+    told(Rule::Access, first_access(code, &targets))
 }
 
 fn is_length(c: u64) -> bool
@@ -57,9 +63,12 @@ fn is_length(c: u64) -> bool
     }
 }
 
-// The check of the code that is the first code_len bytes of RAM. Every run of what it admits is safe.
+// The check of the code that is the first code_len bytes of RAM. Demand 3 is part of its promise; so is what each refusal tells,
+// that an admitted program goes on safely from run to run, and the rows of what is known.
 pub fn check(ram: &[u8], code_len: u64) -> Verdict
-    ensures { λ r. ⌜ (r ≡ checkOf gpu (now (ram .entry)) «code_len») × Demand3 gpu ⌝ }
+    ensures { λ r. ⌜ r ≡ checkOf gpu (now (ram .entry)) «code_len» ⌝ }
+    ensures { λ _. ⌜ Demand3 gpu × Tells gpu × GoesOn gpu ⌝ }
+    ensures { λ _. ⌜ KnownRows ⌝ }
 {
     if ram.len() != 4096 {
         return Verdict::RamLength;

@@ -1,29 +1,20 @@
 -- A run: its refusals, and instructions one after another up to its budget.
-use Prim.Native.Nat.{ℕ, _%_}
+use Prim.Native.Nat.{ℕ, _+_}
 use mathlib.Core.Bool.{cond}
 use mathlib.Core.List.{List}
 use lib.Dec.{eqb, ltb}
 use lib.ListN.{length}
 use Rattle.memory.specs.Processor.{Processor}
-use Rattle.state.specs.declared.answers.Answer.{Answer}
-use Rattle.state.specs.declared.answers.Answer.the-variants.{RamLength, BudgetLimit}
-use Rattle.transfers.specs.Transfers.{View, viewFrom}
+use Rattle.answers.specs.declared.Answer.{Answer}
+use Rattle.answers.specs.declared.Answer.the-variants.{RamLength, BudgetLimit}
 use Rattle.cycle.specs.Runs.{Runs, runsOf}
 use Rattle.machine.specs.declared.State.{State}
 use Rattle.machine.specs.declared.Ran.{Ran}
+use Rattle.machine.specs.State.{viewOf, stateOf}
 
 -- "The budget is 0 to 1,000,000."
 abbrev pub budgetLimit : ℕ
 budgetLimit = 1000000
-
--- The state with its active bank first, and back in the banks' order.
-abbrev pub viewOf : State → View
-viewOf s =
-    viewFrom (cond (eqb (s .core .bank % 2) 0) (s .bank0) (s .bank1)) (cond (eqb (s .core .bank % 2) 0) (s .bank1) (s .bank0)) (s .core)
-
-abbrev pub stateOf : View → State
-stateOf v =
-    record { bank0 = cond (eqb (v .core .bank % 2) 0) (v .active) (v .other); bank1 = cond (eqb (v .core .bank % 2) 0) (v .other) (v .active); core = v .core }
 
 -- What a run hands back, and RAM after it.
 pub record Result : Type 0 where
@@ -35,6 +26,10 @@ ranWith r ram = record { ran = r; ram = ram }
 
 abbrev pub result : Answer → ℕ → State → List ℕ → Result
 result answer steps s ram = record { ran = record { answer = answer; steps = steps; state = s }; ram = ram }
+
+-- With the steps of an earlier run added to the count.
+abbrev pub counted : ℕ → Result → Result
+counted steps r = result (r .ran .answer) (steps + r .ran .steps) (r .ran .state) (r .ram)
 
 -- "A refused run has 0 steps", and changes nothing.
 abbrev pub refused : Answer → State → List ℕ → Result

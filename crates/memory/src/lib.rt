@@ -4,27 +4,27 @@ ghost use Prim.Native.Nat.{_+_, _%_, _^_, _≤_, _<_};
 ghost use lib.ListN.{length};
 ghost use Rattle.memory.specs.Processor.{gpu};
 ghost use Rattle.memory.specs.Memory.{wordAt, longAt, putLong, fetchOf, immediateOf, registerOf, placeOf};
+use answers::Fault;
 
 // What a fetch gives: the word, or the refusal.
 pub enum Fetched {
     Word(u16),
-    Outside,
+    Refused(Fault),
 }
 
 // The long of a MOVEI.
 pub enum Immediate {
     Long(u32),
-    Outside,
+    Refused(Fault),
 }
 
-// Where an address leads: to a byte of local RAM, to one of the built chip registers, or nowhere.
+// Where an address leads: to a byte of local RAM, to one of the built chip registers, or to a refusal.
 pub enum Place {
     Ram(usize),
     Flags,
     Control,
     Divide,
-    Misaligned,
-    Unmapped,
+    Refused(Fault),
 }
 
 // A byte as a number.
@@ -54,12 +54,12 @@ pub fn fetch(ram: &[u8], pc: u32) -> Fetched
 {
     let at = offset(pc) as usize;
     if at % 2 == 1 {
-        return Fetched::Outside;
+        return Fetched::Refused(Fault::BadCounter);
     }
     if at + 1 < ram.len() {
         Fetched::Word(word_at(ram, at) as u16)
     } else {
-        Fetched::Outside
+        Fetched::Refused(Fault::BadCounter)
     }
 }
 
@@ -70,14 +70,14 @@ pub fn fetch_long(ram: &[u8], pc: u32) -> Immediate
 {
     let at = offset(std::num::wrapping_add_u32(pc, 2)) as usize;
     if at % 2 == 1 {
-        return Immediate::Outside;
+        return Immediate::Refused(Fault::BadCounter);
     }
     if at + 3 < ram.len() {
         let low = word_at(ram, at);
         let high = word_at(ram, at + 2);
         Immediate::Long(high * 65536 + low)
     } else {
-        Immediate::Outside
+        Immediate::Refused(Fault::BadCounter)
     }
 }
 
@@ -107,7 +107,7 @@ pub fn locate(a: u32) -> Place
     ensures { λ r. ⌜ r ≡ placeOf gpu a ⌝ }
 {
     if a % 4 != 0 {
-        return Place::Misaligned;
+        return Place::Refused(Fault::Misaligned);
     }
     let at = offset(a) as usize;
     if at < 4096 {
@@ -124,6 +124,6 @@ fn register_at(a: u32) -> Place
         0xF02100 => Place::Flags,
         0xF02114 => Place::Control,
         0xF0211C => Place::Divide,
-        _ => Place::Unmapped,
+        _ => Place::Refused(Fault::Unmapped),
     }
 }

@@ -11,8 +11,8 @@ use lib.ListN.{length}
 use Rattle.memory.specs.Processor.{gpu}
 use Rattle.rules.specs.declared.Item.{Item}
 use Rattle.rules.specs.declared.Shape.{Shape}
-use Rattle.rules.specs.Reading.{itemOf, shapeOf, bytesOf}
-use Rattle.rules.specs.Check.{isBuilt, jumps, breaksSlot, always, isTarget, ok1, ok2, ok3, ok4, ok5, jrOk, jumpOk}
+use Rattle.rules.specs.Reading.{jumps, breaksSlot, always, itemOf, shapeOf, bytesOf}
+use Rattle.rules.specs.Check.{isBuilt, isTarget, ok1, ok2, ok3, ok4, ok5, jrOk, jumpOk}
 use Rattle.rules.proofs.Booleans.{by}
 use Rattle.reading.specs.Places.{Here}
 use Rattle.reading.proofs.Offsets.{item-at, item-here}

@@ -2,30 +2,23 @@
 -- Assumes nothing.
 use Prim.Native.Nat.{ℕ, _+_, _≤_, _<_}
 use mathlib.Core.Path.{_≡_, sym, subst, _∙_, ap}
-use mathlib.Core.Bool.{true, false, not}
+use mathlib.Core.Bool.{true, not}
 use mathlib.Core.List.{List}
 use native.Mathlib.Omega.{arith}
-use borrow.Author.Tests.{lt-ltb, le-ltb, ltb-true, ltb-false}
+use borrow.Author.Tests.{ltb-true, ltb-false}
 use lib.Dec.{ltb}
 use lib.ListN.{length}
 use Rattle.memory.specs.Processor.{gpu}
 use Rattle.rules.specs.declared.Item.{Item}
 use Rattle.rules.specs.declared.Item.the-variants.{Unbuilt}
-use Rattle.rules.specs.Reading.{itemOf, shapeOf, bytesOf, found}
-use Rattle.rules.specs.Check.{before, first}
+use Rattle.rules.specs.Reading.{itemOf, shapeOf, bytesOf, before}
+use Rattle.rules.specs.Scan.{found}
+use Rattle.rules.specs.Check.{first}
 use Rattle.rules.proofs.Booleans.{by}
 use Rattle.reading.proofs.Offsets.{item-at}
-use Rattle.reading.specs.Places.{hitAt}
-use Rattle.passes.specs.Passes.{Lowest, testOf}
+use Rattle.passes.specs.Passes.{testOf}
+use Rattle.passes.proofs.Lowest.{Lowest}
 use Rattle.reading.proofs.Came.{Came, came-first, came-on, came-hit, came-past}
-
-found-in : (code : List ℕ) (i : ℕ) → i < length code → found (hitAt code i) ≡ true
-unfolding hitAt
-found-in code i h = rw (lt-ltb i (length code) h)
-
-pub found-out : (code : List ℕ) (i : ℕ) → length code ≤ i → found (hitAt code i) ≡ false
-unfolding hitAt
-found-out code i h = rw (le-ltb i (length code) h)
 
 module _ (code : List ℕ) where
   -- the pass came to the offset i, after the item p, and found r to be the lowest broken rule
@@ -44,11 +37,11 @@ module _ (code : List ℕ) where
         broken = λ h. absurd (omega (arith, h));
       }
 
-  pub least-on : {i : ℕ} {p : Item} {r s : ℕ} (t : Item) → Least i p r → Lowest (λ rule. testOf code rule (0xF03000 + i) p) r s → i < length code → t ≡ itemOf code i
+  pub least-on : {i : ℕ} {p : Item} {r s : ℕ} (t : Item) → Least i p r → Lowest (λ rule. testOf code rule (0xF03000 + i) p) 1 r s → i < length code → t ≡ itemOf code i
       → (n : ℕ) → n ≡ bytesOf (shapeOf t) → Least (i + n) t s
   least-on {i} {p} {r} {s} t l w h g n z =
       record {
-        one = w .one;
+        one = w .least;
         most = omega (arith, w .most, l .most);
         came =
             λ rule a b. subst (Came code Item Unbuilt (before gpu code) (testOf code rule) (i + n)) (item-at code i ∙ sym g)
@@ -56,18 +49,18 @@ module _ (code : List ℕ) where
         broken = λ b. by (ltb s r)
             (λ d.
             let c = ltb-true s r d in
-            ap found (sym (came-hit code Item Unbuilt (before gpu code) (testOf code s) i p (l .came s (w .one) c) h (w .broken c))) ∙ found-in code i h)
+            ap found (came-hit code Item Unbuilt (before gpu code) (testOf code s) i p (l .came s (w .least) c) h (w .broken c)))
             (λ d.
             let e : r ≡ s = omega (arith, w .most, ltb-false s r d) in
             subst (λ m. found (first gpu code (testOf code m)) ≡ true) e (l .broken (omega (arith, b, e))));
       }
 
-  pub least-past : {i : ℕ} {p : Item} {r : ℕ} → Least i p r → length code ≤ i → Lowest (λ rule. not (found (first gpu code (testOf code rule)))) 6 r
+  pub least-past : {i : ℕ} {p : Item} {r : ℕ} → Least i p r → length code ≤ i → Lowest (λ rule. not (found (first gpu code (testOf code rule)))) 1 6 r
   least-past {i} {p} {r} l h =
       record {
-        one = l .one;
+        least = l .one;
         most = l .most;
         kept =
-            λ rule a b. ap not (ap found (sym (came-past code Item Unbuilt (before gpu code) (testOf code rule) i p (l .came rule a b) h)) ∙ found-out code i h);
+            λ rule a b. ap not (ap found (came-past code Item Unbuilt (before gpu code) (testOf code rule) i p (l .came rule a b) h));
         broken = λ b. ap not (l .broken b);
       }

@@ -1,2 +1,3 @@
-pub mod Least
 pub mod Here
+pub mod Lowest
+pub mod Least

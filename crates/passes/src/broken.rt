@@ -4,15 +4,16 @@ ghost use mathlib.Core.Bool.{not};
 ghost use Prim.Native.Nat.{_+_, _≤_};
 ghost use lib.ListN.{length};
 ghost use Rattle.memory.specs.Processor.{gpu};
-ghost use Rattle.rules.specs.Reading.{found};
+ghost use Rattle.rules.specs.Scan.{found};
 ghost use Rattle.rules.specs.Check.{first};
 ghost use Rattle.reading.specs.Marks.{MarksStarts, MarksTargets};
-ghost use Rattle.reading.specs.Places.{Here, hitAt};
-ghost use Rattle.passes.specs.Passes.{Lowest, testOf};
+ghost use Rattle.reading.specs.Places.{Here};
+ghost use Rattle.passes.specs.Passes.{lowestOf, testOf};
 use crate::tests::obeys;
 use reading::item_at;
 use reading::shape_of;
 use reading::size;
+use rules::Hit;
 use rules::Item;
 
 // The lowest rule below a limit that the item t at offset i, after p, breaks; the limit, if it breaks none.
@@ -26,7 +27,7 @@ fn lowest_here(
     t: Item,
 ) -> u32
     requires { ⌜ (1 ≤ limit) × Here (now code) i t × MarksStarts (now code) (now starts) × MarksTargets (now code) (now targets) ⌝ }
-    ensures { λ r. ⌜ Lowest (λ rule. testOf (now (code .entry)) rule (0xF03000 + i) p) limit r ⌝ }
+    ensures { λ r. ⌜ r ≡ lowestOf (λ rule. testOf (now (code .entry)) rule (0xF03000 + i) p) limit ⌝ }
 {
     let mut rule: u32 = 1;
     while rule < limit {
@@ -41,7 +42,7 @@ fn lowest_here(
 // The lowest of the rules 1 to 5 that is broken anywhere; 6, if none is.
 pub fn lowest_broken(code: &[u8], starts: &[bool; 4104], targets: &[bool; 4104]) -> u32
     requires { ⌜ (length (now code) ≤ 4096) × MarksStarts (now code) (now starts) × MarksTargets (now code) (now targets) ⌝ }
-    ensures { λ r. ⌜ Lowest (λ rule. not (found (first gpu (now (code .entry)) (testOf (now (code .entry)) rule)))) 6 r ⌝ }
+    ensures { λ r. ⌜ r ≡ lowestOf (λ rule. not (found (first gpu (now (code .entry)) (testOf (now (code .entry)) rule)))) 6 ⌝ }
 {
     let mut i: usize = 0;
     let mut p = Item::Unbuilt;
@@ -55,20 +56,20 @@ pub fn lowest_broken(code: &[u8], starts: &[bool; 4104], targets: &[bool; 4104])
     limit
 }
 
-// The first offset at which one of the rules 1 to 5 is broken.
-pub fn first_broken(rule: u32, code: &[u8], starts: &[bool; 4104], targets: &[bool; 4104]) -> usize
+// The first address at which one of the rules 1 to 5 is broken.
+pub fn first_broken(rule: u32, code: &[u8], starts: &[bool; 4104], targets: &[bool; 4104]) -> Hit
     requires { ⌜ (length (now code) ≤ 4096) × MarksStarts (now code) (now starts) × MarksTargets (now code) (now targets) ⌝ }
-    ensures { λ r. ⌜ hitAt (now (code .entry)) r ≡ first gpu (now (code .entry)) (testOf (now (code .entry)) rule) ⌝ }
+    ensures { λ r. ⌜ r ≡ first gpu (now (code .entry)) (testOf (now (code .entry)) rule) ⌝ }
 {
     let mut i: usize = 0;
     let mut p = Item::Unbuilt;
     while i < code.len() {
         let t = item_at(code, i);
         if !obeys(rule, code, starts, targets, i, p, t) {
-            return i;
+            return Hit::At(0xF03000 + i as u32);
         }
         i += size(shape_of(t));
         p = t;
     }
-    i
+    Hit::Clear
 }

@@ -2,7 +2,8 @@
 ghost use mathlib.Core.Path.{_≡_};
 ghost use Prim.Native.Nat.{_+_, _<_};
 ghost use Rattle.memory.specs.Processor.{gpu};
-ghost use Rattle.rules.specs.Check.{jumps, breaksSlot, always, holds, isStart, ok1, ok2, ok3, ok4, ok5};
+ghost use Rattle.rules.specs.Reading.{jumps, breaksSlot, always};
+ghost use Rattle.rules.specs.Check.{holds, isStart, ok1, ok2, ok3, ok4, ok5};
 ghost use Rattle.rules.specs.Check as check;
 ghost use Rattle.reading.specs.Marks.{MarksStarts, MarksTargets};
 ghost use Rattle.reading.specs.Places.{Here};

@@ -4,11 +4,10 @@
 // for and which it writes, and what it does is told of those ranges alone. So none of the 32 is copied.
 ghost use mathlib.Core.Path.{_≡_};
 ghost use mathlib.Core.Bool.{_&&_, _||_};
-ghost use Prim.Native.Nat.{_+_, min};
-ghost use lib.Dec.{leb, ltb};
+ghost use Prim.Native.Nat.{min};
 ghost use Rattle.memory.specs.Processor.{gpu};
 ghost use Rattle.rules.specs.Known.{full, unknown, exactly, andRange, sumRange, lessRange, shiftedRange, isExactly};
-ghost use Rattle.rules.specs.Check.{within};
+ghost use Rattle.rules.specs.Check.{inside, within};
 ghost use Rattle.ranges.specs.Operands.{three, operandsIn, operandsOf, reachOf, rangeAfter, accessOf, forgetsOf};
 ghost use Rattle.ranges.specs.Ordered.{Ordered, AllOrdered};
 use class::Address;
@@ -132,10 +131,10 @@ fn is_exactly(x: Range, n: u32) -> bool
     both(x.low == n, x.high == n)
 }
 
-fn is_inside(from: u32, x: Range) -> bool
-    ensures { λ r. ⌜ r ≡ (leb from (x .low) && ltb (x .high) (gpu .base + gpu .size)) ⌝ }
+fn is_inside(from: u32, a: u32) -> bool
+    ensures { λ r. ⌜ r ≡ inside gpu from a ⌝ }
 {
-    both(from <= x.low, x.high < 0xF04000)
+    both(from <= a, a < 0xF04000)
 }
 
 fn is_register(x: Range) -> bool
@@ -151,7 +150,8 @@ fn is_register(x: Range) -> bool
 pub fn allows(from: u32, x: Range) -> bool
     ensures { λ r. ⌜ r ≡ within gpu from x ⌝ }
 {
-    both(x.aligned, either(is_inside(from, x), is_register(x)))
+    let in_ram = both(is_inside(from, x.low), is_inside(from, x.high));
+    both(x.aligned, either(in_ram, is_register(x)))
 }
 
 // The registers whose ranges an instruction asks for, and the register whose range it changes; 32 where there is none.

@@ -6,13 +6,13 @@ use mathlib.Core.Bool.{Bool, true, false}
 use mathlib.Core.List.{List}
 use native.Mathlib.Omega.{arith}
 use lib.ListN.{length}
-use borrow.Author.Tests.{lt-ltb, le-ltb}
 use Rattle.memory.specs.Processor.{gpu}
 use Rattle.rules.specs.declared.Item.{Item}
-use Rattle.rules.specs.Reading.{itemOf, shapeOf, bytesOf, firstBad}
+use Rattle.rules.specs.declared.Hit.the-variants as H
+use Rattle.rules.specs.Reading.{itemOf, shapeOf, bytesOf}
+use Rattle.rules.specs.Scan.{firstBad}
 use Rattle.reading.proofs.From.{fromThere, from-first, from-past, from-on, from-hit}
 use Rattle.reading.proofs.Offsets.{after-at}
-use Rattle.reading.specs.Places.{hitAt}
 
 module _ (code : List ℕ) (X : Type 0) (x₀ : X) (flow : ℕ → X → X) (test : ℕ → X → Bool) where
   -- the pass came to the offset i, and carries x
@@ -30,10 +30,10 @@ module _ (code : List ℕ) (X : Type 0) (x₀ : X) (flow : ℕ → X → X) (tes
       e ∙ from-on gpu code X x₀ flow test (0xF03000 + i) x (omega arith) q
       ∙ ap (λ a. fromThere gpu code X x₀ flow test a (flow (0xF03000 + i) x)) (after-at code i t g ∙ ap (λ m. 0xF03000 + (i + m)) (sym z))
 
-  pub came-hit : (i : ℕ) (x : X) → Came i x → i < length code → test (0xF03000 + i) x ≡ false → hitAt code i ≡ firstBad gpu code X x₀ flow test
-  unfolding Came hitAt
-  came-hit i x e h q = rw (lt-ltb i (length code) h) (sym (e ∙ from-hit gpu code X x₀ flow test (0xF03000 + i) x (omega arith) q))
+  pub came-hit : (i : ℕ) (x : X) → Came i x → i < length code → test (0xF03000 + i) x ≡ false → firstBad gpu code X x₀ flow test ≡ H.At (0xF03000 + i)
+  unfolding Came
+  came-hit i x e h q = e ∙ from-hit gpu code X x₀ flow test (0xF03000 + i) x (omega arith) q
 
-  pub came-past : (i : ℕ) (x : X) → Came i x → length code ≤ i → hitAt code i ≡ firstBad gpu code X x₀ flow test
-  unfolding Came hitAt
-  came-past i x e h = rw (le-ltb i (length code) h) (sym (e ∙ from-past gpu code X x₀ flow test (0xF03000 + i) x (omega arith)))
+  pub came-past : (i : ℕ) (x : X) → Came i x → length code ≤ i → firstBad gpu code X x₀ flow test ≡ H.Clear
+  unfolding Came
+  came-past i x e h = e ∙ from-past gpu code X x₀ flow test (0xF03000 + i) x (omega arith)

@@ -9,7 +9,10 @@ use lib.Dec.{ltb}
 use lib.ListN.{length}
 use borrow.Author.Tests.{ltb-true, ltb-false}
 use Rattle.memory.specs.Processor.{Processor}
-use Rattle.rules.specs.Reading.{endOf, after, Hit, clear, hit, scan, firstBad}
+use Rattle.rules.specs.declared.Hit.{Hit}
+use Rattle.rules.specs.declared.Hit.the-variants as H
+use Rattle.rules.specs.Reading.{endOf, after}
+use Rattle.rules.specs.Scan.{scan, firstBad}
 use Rattle.rules.proofs.Booleans.{by}
 use Rattle.rules.proofs.Scan.{scan-past, scan-on, scan-hit, after-later}
 
@@ -39,7 +42,7 @@ module _ (P : Processor) (code : List ℕ) (X : Type 0) (x₀ : X) (flow : ℕ �
   unfolding fromThere firstBad
   from-first = enough (length code) (endOf P code - P .base) (P .base) x₀ (omega arith) (omega arith)
 
-  pub from-past : (a : ℕ) (x : X) → endOf P code ≤ a → fromThere a x ≡ clear
+  pub from-past : (a : ℕ) (x : X) → endOf P code ≤ a → fromThere a x ≡ H.Clear
   unfolding fromThere
   from-past a x h = scan-past P code X x₀ flow test (endOf P code - a) a x h
 
@@ -50,7 +53,7 @@ module _ (P : Processor) (code : List ℕ) (X : Type 0) (x₀ : X) (flow : ℕ �
       ∙ scan-on P code X x₀ flow test (endOf P code) a x h t
       ∙ enough (endOf P code) (endOf P code - after P code a) (after P code a) (flow a x) (omega arith) (omega arith)
 
-  pub from-hit : (a : ℕ) (x : X) → a < endOf P code → test a x ≡ false → fromThere a x ≡ hit a
+  pub from-hit : (a : ℕ) (x : X) → a < endOf P code → test a x ≡ false → fromThere a x ≡ H.At a
   unfolding fromThere
   from-hit a x h t =
       enough (endOf P code - a) (suc (endOf P code)) a x (omega arith) (omega arith) ∙ scan-hit P code X x₀ flow test (endOf P code) a x h t

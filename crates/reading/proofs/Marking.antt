@@ -12,7 +12,8 @@ use lib.Seq.{getD-set-same, getD-set-other}
 use borrow.Author.Tests.{lt-ltb, le-ltb, ltb-false, eqb-true, eqb-false}
 use Rattle.memory.specs.Processor.{gpu}
 use Rattle.rules.specs.declared.Item.{Item}
-use Rattle.rules.specs.Reading.{itemOf, shapeOf, bytesOf, found, firstBad}
+use Rattle.rules.specs.Reading.{itemOf, shapeOf, bytesOf}
+use Rattle.rules.specs.Scan.{found, firstBad}
 use Rattle.rules.proofs.Booleans.{by}
 use Rattle.reading.specs.Marks.{markAt, mark, Near}
 use Rattle.reading.proofs.From.{fromThere, from-first, from-past, from-on, from-hit}

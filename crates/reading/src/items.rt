@@ -37,7 +37,7 @@ pub fn item_at(code: &[u8], i: usize) -> Item
     let long = word_at(code, i + 4) * 65536 + word_at(code, i + 2);
     let d = decode(word);
     match d {
-        Decoded::NotBuilt => Item::Unbuilt,
+        Decoded::Refused(_) => Item::Unbuilt,
         Decoded::Built(instruction) => Item::Built(class_of(instruction), long),
     }
 }

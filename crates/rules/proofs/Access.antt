@@ -7,6 +7,7 @@ use mathlib.Core.List.{List}
 use native.Mathlib.Omega.{arith}
 use lib.Dec.{eqb}
 use borrow.Author.Tests.{eqb-true, eq-eqb, lt-ltb, le-ltb}
+use Rattle.answers.specs.declared.Fault.the-variants.{Unmapped}
 use Rattle.memory.specs.Processor.{Processor}
 use Rattle.memory.specs.Memory.{placeOf}
 use Rattle.memory.specs.declared.Place.{Place}
@@ -26,8 +27,7 @@ module _ (P : Processor) (apart : Apart P) (code : List ℕ) (from : ℕ) (low :
   Allowed M.Flags = isExactly x (P .flags) ≡ true
   Allowed M.Control = Unit {0}
   Allowed M.Divide = Unit {0}
-  Allowed M.Misaligned = ⊥
-  Allowed M.Unmapped = ⊥
+  Allowed (M.Refused f) = ⊥
 
   module _ (a : ℕ) (i : In x a) (r : Reaches P code from x) where
     four : eqb (a % 4) 0 ≡ true
@@ -38,7 +38,7 @@ module _ (P : Processor) (apart : Apart P) (code : List ℕ) (from : ℕ) (low :
     register below l h one =
         rw (four, lt-ltb a (P .base) below) (go (eqb a (P .flags)) (eqb a (P .control)) (eqb a (P .divide)) refl one)
       where
-        go : (f c d : Bool) → eqb a (P .flags) ≡ f → (f || (c || d)) ≡ true → Allowed (cond f M.Flags (cond c M.Control (cond d M.Divide M.Unmapped)))
+        go : (f c d : Bool) → eqb a (P .flags) ≡ f → (f || (c || d)) ≡ true → Allowed (cond f M.Flags (cond c M.Control (cond d M.Divide (M.Refused Unmapped))))
         go true c d e o =
             let same : a ≡ P .flags = eqb-true a (P .flags) e in
             and-i (eq-eqb (x .low) (P .flags) (l ∙ same)) (eq-eqb (x .high) (P .flags) (h ∙ same))

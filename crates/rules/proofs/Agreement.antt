@@ -13,7 +13,7 @@ use Rattle.field.proofs.Bounds.{quick-most}
 use Rattle.field.specs.Fields.{quickOf, signedFieldOf}
 use Rattle.isa.specs.Table.{instructions}
 use Rattle.isa.specs.Words as words
-use Rattle.isa.specs.Words.{among, instructionAt, decodedAt}
+use Rattle.isa.specs.Words.{noInstruction, among, instructionAt, decodedAt}
 use Rattle.branch.specs.Jump.{jrTargetOf}
 use Rattle.shifter.specs.Shift.{leftOf}
 use Rattle.class.specs.declared.Address.{Address}
@@ -31,7 +31,7 @@ use Rattle.rules.specs.Reading.{itemIn}
 
 -- no register of the active bank is written, and neither RAM nor the counter is touched
 abbrev pub Silent : Effect → Type 0
-Silent E.NotBuilt = ⊥
+Silent (E.Refused f) = ⊥
 Silent E.Nothing = Unit {0}
 Silent (E.Write d r) = ⊥
 Silent (E.Keep d n) = ⊥
@@ -49,7 +49,7 @@ Silent (E.Store address n) = ⊥
 
 -- register r of the active bank is written, and nothing else of it
 abbrev pub Writes : ℕ → Effect → Type 0
-Writes r E.NotBuilt = ⊥
+Writes r (E.Refused f) = ⊥
 Writes r E.Nothing = ⊥
 Writes r (E.Write d x) = d % 32 ≡ r
 Writes r (E.Keep d n) = d % 32 ≡ r
@@ -67,7 +67,7 @@ Writes r (E.Store address n) = ⊥
 
 -- register r of the active bank gets the value v
 abbrev pub Gives : ℕ → ℕ → Effect → Type 0
-Gives r v E.NotBuilt = ⊥
+Gives r v (E.Refused f) = ⊥
 Gives r v E.Nothing = ⊥
 Gives r v (E.Write d x) = (d % 32 ≡ r) × (x .value ≡ v)
 Gives r v (E.Keep d n) = (d % 32 ≡ r) × (n ≡ v)
@@ -175,7 +175,7 @@ module _ (a : List ℕ) (s d : ℕ) (x : Operands) (es : x .s ≡ getD a s 0) (e
   unfolding decodedAt instructionAt
   agrees op long c v e = go (words.built op (eqb s 0) (eqb d 0)) e
     where
-      go : (t : Bool) → itemIn (cond t (D.Built (among op (instructions s d))) D.NotBuilt) long ≡ Built c v → Agrees a (x .pc) c (effectIn (cond t (D.Built (among op (instructions s d))) D.NotBuilt) a x) × (long ≡ v)
+      go : (t : Bool) → itemIn (cond t (D.Built (among op (instructions s d))) noInstruction) long ≡ Built c v → Agrees a (x .pc) c (effectIn (cond t (D.Built (among op (instructions s d))) noInstruction) a x) × (long ≡ v)
       go true e =
           let same : classOf (among op (instructions s d)) ≡ c = cc in
           (subst (λ k. Agrees a (x .pc) k (effectOf (among op (instructions s d)) a x)) same (found (λ i. Agrees a (x .pc) (classOf i) (effectOf i a x)) op tt (instructions s d) each), cc)

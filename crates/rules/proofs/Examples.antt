@@ -1,8 +1,9 @@
--- Demand 3 for the graphics processor, and that it is not vacuous: the check admits four programs, and a run of 01's card needs no assumption.
+-- Demand 3 for the graphics processor, and that it is not vacuous: the check admits four programs, and a run of 01's card needs no
+-- assumption.
 -- Assumes nothing.
 use Prim.Native.Nat.{ℕ, zero, suc, _^_, _≤_, _<_}
 use mathlib.Core.Path.{_≡_, refl}
-use mathlib.Core.Bool.{Bool, true, _&&_}
+use mathlib.Core.Bool.{Bool, true, false, _&&_}
 use mathlib.Core.List.{List, [], _∷_, _++_}
 use native.Mathlib.Omega.{arith}
 use lib.Dec.{ltb}
@@ -15,19 +16,28 @@ use Rattle.state.specs.declared.Pending.the-variants.{None}
 use Rattle.state.specs.declared.Activity.the-variants.{Running}
 use Rattle.machine.specs.declared.State.{State}
 use Rattle.machine.specs.Run.{budgetLimit}
-use Rattle.rules.specs.declared.Verdict.the-variants.{Admitted, Ending}
-use Rattle.rules.specs.Reading.{itemOf, itemAt, scan, firstBad}
+use Rattle.machine.specs.Types.{IsBytes, IsBank, IsState}
+use Rattle.rules.specs.declared.Verdict.the-variants.{Admitted, Broken}
+use Rattle.rules.specs.declared.Rule.the-variants.{Ending}
+use Rattle.rules.specs.Reading.{itemOf, itemAt}
+use Rattle.rules.specs.Scan.{scan, firstBad}
 use Rattle.rules.specs.Known.{transferOf}
-use Rattle.rules.specs.Check.{isStart, isTarget, learn, ok1, ok2, ok3, ok4, ok5, ok6, rulesOf, checkOf}
-use Rattle.rules.specs.Safety.{Apart, IsRam, IsBank, IsState, Begins, Loaded, Safe, Demand3}
+use Rattle.rules.specs.Check.{isStart, isTarget, learn, ok1, ok2, ok3, ok4, ok5, ok6, brokenIn, rulesOf, checkOf}
+use Rattle.rules.specs.Safety.{Apart, Begins, Loaded, Safe, Demand3, Tells, GoesOn}
 use Rattle.rules.proofs.Booleans.{and-l, and-r}
-use Rattle.rules.proofs.Demand.{demand3}
+use Rattle.rules.proofs.Demand.{demand3, tells, goes-on}
 
 pub gpu-apart : Apart gpu
 gpu-apart = record { flags-below = omega arith; control-below = omega arith; divide-below = omega arith }
 
 pub gpu-demand3 : Demand3 gpu
 gpu-demand3 = demand3 gpu gpu-sound gpu-apart
+
+pub gpu-tells : Tells gpu
+gpu-tells = tells gpu
+
+pub gpu-goes-on : GoesOn gpu
+gpu-goes-on = goes-on gpu gpu-sound gpu-apart
 
 -- 01's "whole card": MOVEI #F02114h,R1; MOVEQ #0,R0; STORE R0,(R1); NOP; JR to itself; NOP
 pub card : List ℕ
@@ -48,15 +58,15 @@ pub indexing : List ℕ
 indexing = (0x98 ∷ 0x0E ∷ 0x31 ∷ 0x00 ∷ 0x00 ∷ 0xF0 ∷ 0x8D ∷ 0x03 ∷ 0xC4 ∷ 0x41 ∷ 0xAC ∷ 0x42 ∷ 0xF0 ∷ 0x61 ∷ 0xE8 ∷ 0x62 ∷ 0xD7 ∷ 0xE0 ∷ 0xE4 ∷ 0x00 ∷ []) ++ replicate 4076 0
 
 -- what the check answers, computed
-verdicts : (checkOf gpu card 16 ≡ Admitted) × (checkOf gpu card 12 ≡ Ending 0xF0300A) × (checkOf gpu jumping 12 ≡ Admitted) × (checkOf gpu switching 28 ≡ Admitted) × (checkOf gpu indexing 20 ≡ Admitted)
-unfolding card jumping switching indexing checkOf rulesOf firstBad scan itemAt itemOf transferOf isStart isTarget learn ok1 ok2 ok3 ok4 ok5 ok6 decodedAt instructionAt
+verdicts : (checkOf gpu card 16 ≡ Admitted) × (checkOf gpu card 12 ≡ Broken Ending 0xF0300A) × (checkOf gpu jumping 12 ≡ Admitted) × (checkOf gpu switching 28 ≡ Admitted) × (checkOf gpu indexing 20 ≡ Admitted)
+unfolding card jumping switching indexing checkOf rulesOf brokenIn firstBad scan itemAt itemOf transferOf isStart isTarget learn ok1 ok2 ok3 ok4 ok5 ok6 decodedAt instructionAt
 verdicts = (refl, refl, refl, refl, refl)
 
 pub card-admitted : checkOf gpu card 16 ≡ Admitted
 card-admitted = verdicts .0
 
 -- cut before its JR: the last instruction, a NOP, follows no jump with condition 0
-pub card-cut : checkOf gpu card 12 ≡ Ending 0xF0300A
+pub card-cut : checkOf gpu card 12 ≡ Broken Ending 0xF0300A
 card-cut = verdicts .1
 
 pub jumping-admitted : checkOf gpu jumping 12 ≡ Admitted
@@ -68,7 +78,7 @@ switching-admitted = verdicts .3
 pub indexing-admitted : checkOf gpu indexing 20 ≡ Admitted
 indexing-admitted = verdicts .4
 
--- "an admitted program, whatever the state, data and allowed budget"
+-- every run of a program from a state that begins is safe
 abbrev pub AlwaysSafe : List ℕ → ℕ → Type 0
 AlwaysSafe program C =
     (ram : List ℕ) (s : State) → Loaded gpu program C ram s → (budget : ℕ) → budget ≤ budgetLimit → Safe gpu (take C program) ram s budget
@@ -88,7 +98,7 @@ indexing-safe = gpu-demand3 .safely indexing 20 indexing-admitted
 -- "starts at F03000h, running, all else zero"
 abbrev start : State
 start =
-    record { bank0 = replicate 32 0; bank1 = replicate 32 0; core = record { bank = 0; flags = record { z = 0; n = 0; c = 0 }; pc = gpu .base; pending = None; remainder = 0; mode = 0; accumulator = 0; activity = Running } }
+    record { bank0 = replicate 32 0; bank1 = replicate 32 0; second = false; z = false; n = false; c = false; pc = gpu .base; pending = None; remainder = 0; mode = false; accumulator = 0; activity = Running }
 
 unfoldable pub below : ℕ → List ℕ → Bool
 below n [] = true
@@ -100,7 +110,7 @@ below-at n z [] e i = z
 below-at n z (x ∷ l) e zero = ltb-true x n (and-l (ltb x n) (below n l) e)
 below-at n z (x ∷ l) e (suc i) = below-at n z l (and-r (ltb x n) (below n l) e) i
 
-pub card-ram : IsRam card
+pub card-ram : IsBytes card
 unfolding card below
 card-ram = record { bytes = below-at 256 (omega arith) card refl }
 
@@ -113,14 +123,9 @@ start-state =
     record {
       first-bank = zero-bank;
       second-bank = zero-bank;
-      bank-word = omega arith;
-      z-word = omega arith;
-      n-word = omega arith;
-      c-word = omega arith;
       pc-word = omega arith;
       target-word = tt;
       remainder-word = omega arith;
-      mode-word = omega arith;
       accumulator-word = omega arith;
     }
 

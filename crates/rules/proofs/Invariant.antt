@@ -20,13 +20,14 @@ use Rattle.rules.specs.declared.Item.{Item}
 use Rattle.rules.specs.declared.Item.the-variants.{Built}
 use Rattle.rules.specs.declared.Shape.{Shape}
 use Rattle.rules.specs.declared.Shape.the-variants.{Other, Movei, MovePc, Jr, Jump, Load, Store}
-use Rattle.rules.specs.Reading.{shapeIn, shapeOf, bytesOf, endOf, itemAt, shapeAt, after, first, next}
+use Rattle.rules.specs.declared.Rule.the-variants as N
+use Rattle.rules.specs.Reading.{breaksSlot, always, shapeIn, shapeOf, bytesOf, endOf, itemAt, shapeAt, after, next}
 use Rattle.rules.specs.Known.{unknown, transfer, transferOf}
-use Rattle.rules.specs.Check.{breaksSlot, always, isTarget, learn}
-use Rattle.rules.specs.Rules.{IsInstruction, IsStart, Leads, by-jr, by-jump, IsTarget, Knows, Rules}
+use Rattle.rules.specs.Check.{isTarget, learn}
+use Rattle.rules.specs.Rules.{IsInstruction, IsStart, Leads, by-jr, by-jump, IsTarget, Knows, at-first, at-target, onward, Rules}
 use Rattle.rules.proofs.Booleans.{by, no-way}
 use Rattle.rules.proofs.Scan.{reads-too}
-use Rattle.rules.proofs.Reflect.{target-is}
+use Rattle.rules.proofs.Reflect.{knows-of, knows-next}
 use Rattle.rules.proofs.Ranges.{Fits}
 
 -- what an instruction that was just run left in the active bank: a MOVEI's register holds its value
@@ -70,17 +71,17 @@ module _ (P : Processor) (code : List ℕ) (R : Rules P code) where
   target-start t g = go (g .leads)
     where
       go : Leads P code (g .from) (g .previous) t → IsStart P code t
-      go (by-jr n c e q) = subst (IsStart P code) q (R .rule2 (g .from) (g .previous) (g .is-instruction) n c e)
+      go (by-jr n c e q) = subst (IsStart P code) q (R N.JrTarget (g .from) (g .previous) (g .is-instruction) n c e)
       go (by-jump r c e q) =
-          let j = R .rule3 (g .from) (g .previous) (g .is-instruction) r c e .0 in
+          let j = R N.JumpTarget (g .from) (g .previous) (g .is-instruction) r c e .0 in
           let same : j .0 ≡ t = cc (j .1, q) in
           subst (IsStart P code) same (j .2)
 
   -- at a target nothing is known
   known-unknown : {t : ℕ} {k : List Range} → Knows P code t k → IsTarget P code t → k ≡ unknown
-  unfolding learn
-  known-unknown first g = refl
-  known-unknown (next {a} r l) g = rw (target-is P code (after P code a) g)
+  known-unknown at-first g = refl
+  known-unknown (at-target q l h) g = refl
+  known-unknown (onward q l n) g = absurd (n g)
 
   -- the counter goes to a pending target
   land : (t : ℕ) (ram : List ℕ) (v : View) → take (length code) ram ≡ code → Fits unknown (v .active) → IsTarget P code t → v .core .pc ≡ t → v .core .pending ≡ None → Inv P code ram v
@@ -92,8 +93,8 @@ module _ (P : Processor) (code : List ℕ) (R : Rules P code) where
         previous = s .previous;
         is-instruction = subst (λ a. IsInstruction P code a (s .previous)) (sym e) (s .is-instruction);
         known = q .0;
-        knows = subst (λ a. Knows P code a (q .0)) (sym e) (q .1);
-        fits = subst (λ k. Fits k (v .active)) (sym (known-unknown (q .1) g)) wide;
+        knows = subst (λ a. Knows P code a (q .0)) (sym e) (knows-of P code (q .1));
+        fits = subst (λ k. Fits k (v .active)) (sym (known-unknown (knows-of P code (q .1)) g)) wide;
         came = by-target (subst (IsTarget P code) (sym e) g);
         slot = λ u h. pending-none none h;
       }
@@ -107,7 +108,7 @@ module _ (P : Processor) (code : List ℕ) (R : Rules P code) where
         previous = itemAt P code a;
         is-instruction = subst (λ b. IsInstruction P code b (itemAt P code a)) (sym e) (record { read = next (i .read) (i .inside); inside = l });
         known = learn P code a k;
-        knows = subst (λ b. Knows P code b (learn P code a k)) (sym e) (next q (i .inside));
+        knows = subst (λ b. Knows P code b (learn P code a k)) (sym e) (knows-next P code q (i .inside));
         fits = go (isTarget P code (after P code a));
         came = by-fall fell;
         slot = λ t h. subst (λ b. IsTarget P code t × (breaksSlot (shapeAt P code b) ≡ false)) (sym e) (slot t h);
@@ -121,8 +122,8 @@ module _ (P : Processor) (code : List ℕ) (R : Rules P code) where
   pub not-last : {ram : List ℕ} {v : View} → Inv P code ram v → v .core .pending ≡ None → after P code (v .core .pc) < endOf P code
   not-last {ram} {v} inv none =
       by (eqb (after P code (v .core .pc)) (endOf P code))
-      (λ e. absurd (go (R .rule5 (v .core .pc) (inv .previous) (inv .is-instruction) (eqb-true (after P code (v .core .pc)) (endOf P code) e)) (inv .came)))
-      (λ e. omega (arith, eqb-false (after P code (v .core .pc)) (endOf P code) e, R .rule1 (v .core .pc) (inv .previous) (inv .is-instruction) .1))
+      (λ e. absurd (go (R N.Ending (v .core .pc) (inv .previous) (inv .is-instruction) (eqb-true (after P code (v .core .pc)) (endOf P code) e)) (inv .came)))
+      (λ e. omega (arith, eqb-false (after P code (v .core .pc)) (endOf P code) e, R N.AllBuilt (v .core .pc) (inv .previous) (inv .is-instruction) .1))
     where
       go : (always (shapeOf (inv .previous)) ≡ true) × (IsTarget P code (v .core .pc) → ⊥) → Came P code (inv .previous) v → ⊥
       go q (by-target g) = q .1 g

@@ -10,3 +10,4 @@ pub mod Access
 pub mod Step
 pub mod Demand
 pub mod Examples
+pub mod KnownRows

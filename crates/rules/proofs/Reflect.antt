@@ -1,8 +1,8 @@
 -- The computed tests of the check and the six rules as statements say the same of an instruction, both ways.
 -- Assumes nothing.
-use Prim.Native.Nat.{ℕ, _+_}
+use Prim.Native.Nat.{ℕ, _+_, _<_}
 use mathlib.Core.Path.{_≡_, refl, sym, subst, _∙_, ap}
-use mathlib.Core.Bool.{Bool, true, false, not, _&&_, _||_}
+use mathlib.Core.Bool.{Bool, true, false, not, cond, _&&_, _||_}
 use mathlib.Core.List.{List}
 use lib.Dec.{eqb, ltb, leb}
 use borrow.Author.Tests.{eqb-true, eq-eqb, ltb-true, lt-ltb, leb-true, le-leb, not-false}
@@ -15,10 +15,10 @@ use Rattle.rules.specs.declared.Item.{Item}
 use Rattle.rules.specs.declared.Item.the-variants.{Unbuilt, Built}
 use Rattle.rules.specs.declared.Shape.{Shape}
 use Rattle.rules.specs.declared.Shape.the-variants.{Other, Movei, MovePc, Jr, Jump, Load, Store}
-use Rattle.rules.specs.Reading.{shapeOf, endOf, itemAt, shapeAt, after}
-use Rattle.rules.specs.Known.{addressRange, isExactly}
-use Rattle.rules.specs.Check.{isBuilt, jumps, breaksSlot, always, holds, leads, within, before, isStart, isTarget, jrOk, jumpOk, accessOk, ok1, ok2, ok3, ok4, ok5, ok6}
-use Rattle.rules.specs.Rules.{IsStart, Leads, by-jr, by-jump, IsTarget, Place, in-ram, at-flags, at-control, at-divide, Reaches, Rule1, Rule2, Rule3, Rule4, Rule5, Rule6}
+use Rattle.rules.specs.Reading.{jumps, breaksSlot, always, shapeOf, endOf, itemAt, shapeAt, after, before, Reads, first, next}
+use Rattle.rules.specs.Known.{unknown, addressRange, isExactly, transferOf}
+use Rattle.rules.specs.Check.{isBuilt, holds, leads, inside, within, isStart, isTarget, learn, jrOk, jumpOk, accessOk, ok1, ok2, ok3, ok4, ok5, ok6}
+use Rattle.rules.specs.Rules.{IsStart, Leads, by-jr, by-jump, IsTarget, Knows, at-first, at-target, onward, Inside, Place, in-ram, at-flags, at-control, at-divide, Reaches, Rule1, Rule2, Rule3, Rule4, Rule5, Rule6}
 use Rattle.rules.proofs.Booleans.{by, no-way, and-l, and-r, and-i, or-cases, or-l, or-r, not-i, not-of}
 use Rattle.rules.proofs.Scan.{finds, is-found}
 
@@ -53,39 +53,51 @@ exactly-is x n e f = and-i (eq-eqb (x .low) n e) (eq-eqb (x .high) n f)
 
 module _ (P : Processor) (code : List ℕ) where
   -- an access
-  pub reaches-of : (from : ℕ) (x : Range) → within P from x ≡ true → Reaches P code from x
-  reaches-of from x e =
-      let inside : Bool = leb from (x .low) && ltb (x .high) (P .base + P .size) in
-      let others : Bool = isExactly x (P .control) || isExactly x (P .divide) in
-      let registers : Bool = isExactly x (P .flags) || others in
+  inside-of : (from a : ℕ) → inside P from a ≡ true → Inside P code from a
+  inside-of from a e =
       record {
-        is-aligned = and-l (x .aligned) (inside || registers) e;
-        place =
-            or-cases inside registers (and-r (x .aligned) (inside || registers) e)
-            (λ h. in-ram
-            (leb-true from (x .low) (and-l (leb from (x .low)) (ltb (x .high) (P .base + P .size)) h))
-            (ltb-true (x .high) (P .base + P .size) (and-r (leb from (x .low)) (ltb (x .high) (P .base + P .size)) h)))
-            (λ h. or-cases (isExactly x (P .flags)) others h
-            (λ g. let q = exactly-of x (P .flags) g in at-flags (q .0) (q .1))
-            (λ g. or-cases (isExactly x (P .control)) (isExactly x (P .divide)) g
-            (λ f. let q = exactly-of x (P .control) f in at-control (q .0) (q .1))
-            (λ f. let q = exactly-of x (P .divide) f in at-divide (q .0) (q .1))));
+        low = leb-true from a (and-l (leb from a) (ltb a (P .base + P .size)) e);
+        high = ltb-true a (P .base + P .size) (and-r (leb from a) (ltb a (P .base + P .size)) e);
       }
 
-  place-is : (from : ℕ) (x : Range) → Place P code from x
-      → ((leb from (x .low) && ltb (x .high) (P .base + P .size)) || (isExactly x (P .flags) || (isExactly x (P .control) || isExactly x (P .divide)))) ≡ true
-  place-is from x (in-ram l h) =
-      or-l (isExactly x (P .flags) || (isExactly x (P .control) || isExactly x (P .divide)))
-      (and-i (le-leb from (x .low) l) (lt-ltb (x .high) (P .base + P .size) h))
-  place-is from x (at-flags l h) =
-      or-r (leb from (x .low) && ltb (x .high) (P .base + P .size))
-      (or-l (isExactly x (P .control) || isExactly x (P .divide)) (exactly-is x (P .flags) l h))
+  inside-is : (from a : ℕ) → Inside P code from a → inside P from a ≡ true
+  inside-is from a h = and-i (le-leb from a (h .low)) (lt-ltb a (P .base + P .size) (h .high))
+
+  abbrev inRam : ℕ → Range → Bool
+  inRam from x = inside P from (x .low) && inside P from (x .high)
+
+  abbrev atOthers : Range → Bool
+  atOthers x = isExactly x (P .control) || isExactly x (P .divide)
+
+  abbrev atRegisters : Range → Bool
+  atRegisters x = isExactly x (P .flags) || atOthers x
+
+  place-of : (from : ℕ) (x : Range) → (inRam from x || atRegisters x) ≡ true → Place P code from x
+  place-of from x e =
+      or-cases (inRam from x) (atRegisters x) e
+      (λ h. in-ram
+      (inside-of from (x .low) (and-l (inside P from (x .low)) (inside P from (x .high)) h))
+      (inside-of from (x .high) (and-r (inside P from (x .low)) (inside P from (x .high)) h)))
+      (λ h. or-cases (isExactly x (P .flags)) (atOthers x) h
+      (λ g. let q = exactly-of x (P .flags) g in at-flags (q .0) (q .1))
+      (λ g. or-cases (isExactly x (P .control)) (isExactly x (P .divide)) g
+      (λ f. let q = exactly-of x (P .control) f in at-control (q .0) (q .1))
+      (λ f. let q = exactly-of x (P .divide) f in at-divide (q .0) (q .1))))
+
+  pub reaches-of : (from : ℕ) (x : Range) → within P from x ≡ true → Reaches P code from x
+  reaches-of from x e =
+      record {
+        is-aligned = and-l (x .aligned) (inRam from x || atRegisters x) e;
+        place = place-of from x (and-r (x .aligned) (inRam from x || atRegisters x) e);
+      }
+
+  place-is : (from : ℕ) (x : Range) → Place P code from x → (inRam from x || atRegisters x) ≡ true
+  place-is from x (in-ram l h) = or-l (atRegisters x) (and-i (inside-is from (x .low) l) (inside-is from (x .high) h))
+  place-is from x (at-flags l h) = or-r (inRam from x) (or-l (atOthers x) (exactly-is x (P .flags) l h))
   place-is from x (at-control l h) =
-      or-r (leb from (x .low) && ltb (x .high) (P .base + P .size))
-      (or-r (isExactly x (P .flags)) (or-l (isExactly x (P .divide)) (exactly-is x (P .control) l h)))
+      or-r (inRam from x) (or-r (isExactly x (P .flags)) (or-l (isExactly x (P .divide)) (exactly-is x (P .control) l h)))
   place-is from x (at-divide l h) =
-      or-r (leb from (x .low) && ltb (x .high) (P .base + P .size))
-      (or-r (isExactly x (P .flags)) (or-r (isExactly x (P .control)) (exactly-is x (P .divide) l h)))
+      or-r (inRam from x) (or-r (isExactly x (P .flags)) (or-r (isExactly x (P .control)) (exactly-is x (P .divide) l h)))
 
   pub reaches-is : (from : ℕ) (x : Range) → Reaches P code from x → within P from x ≡ true
   reaches-is from x r = and-i (r .is-aligned) (place-is from x (r .place))
@@ -163,6 +175,26 @@ module _ (P : Processor) (code : List ℕ) where
   not-target : (t : ℕ) → (IsTarget P code t → ⊥) → not (isTarget P code t) ≡ true
   not-target t h = by (isTarget P code t) (λ e. absurd (h (target-of t e))) (λ e. not-i e)
 
+  -- what is known, and the reading that carries what the check learns
+  pub knows-next : {a : ℕ} {k : List Range} → Knows P code a k → a < endOf P code → Knows P code (after P code a) (learn P code a k)
+  unfolding learn
+  knows-next {a} {k} q l =
+      by (isTarget P code (after P code a))
+      (λ t. rw t (at-target q l (target-of (after P code a) t)))
+      (λ t. rw t (onward q l (no-target (after P code a) (not-i t))))
+
+  pub knows-of : {a : ℕ} {k : List Range} → Reads P code (List Range) unknown (learn P code) a k → Knows P code a k
+  knows-of first = at-first
+  knows-of (next r l) = knows-next (knows-of r) l
+
+  pub knows-is : {a : ℕ} {k : List Range} → Knows P code a k → Reads P code (List Range) unknown (learn P code) a k
+  unfolding learn
+  knows-is at-first = first
+  knows-is (at-target {a} {k} r l g) =
+      subst (λ t. Reads P code (List Range) unknown (learn P code) (after P code a) (cond t unknown (transferOf P (itemAt P code a) k))) (target-is (after P code a) g) (next (knows-is r) l)
+  knows-is (onward {a} {k} r l n) =
+      subst (λ t. Reads P code (List Range) unknown (learn P code) (after P code a) (cond t unknown (transferOf P (itemAt P code a) k))) (not-of (isTarget P code (after P code a)) (not-target (after P code a) n)) (next (knows-is r) l)
+
   -- rule 1
   pub of1 : (a : ℕ) (p : Item) → ok1 P code a p ≡ true → Rule1 P code a p
   unfolding ok1
@@ -199,25 +231,24 @@ module _ (P : Processor) (code : List ℕ) where
   unfolding ok3
   of3 a p h r c e =
       let held : Bool = holds (shapeOf p) r (isStart P code) in
-      let k : (held && not (isTarget P code a)) ≡ true = subst (λ s. jumpOk P code a (shapeOf p) s ≡ true) e h in
-      let q = holds-of (shapeOf p) r (isStart P code) (and-l held (not (isTarget P code a)) k) in
-      ((q .0, q .1, start-of (q .0) (q .2)), no-target a (and-r held (not (isTarget P code a)) k))
+      let k = subst (λ s. jumpOk P code a (shapeOf p) s ≡ true) e h in
+      let q = holds-of (shapeOf p) r (isStart P code) (and-l held _ k) in
+      ((q .0, q .1, start-of (q .0) (q .2)), no-target _ (and-r held _ k))
 
-  jump-is : (a : ℕ) (p s : Shape)
-      → ((r c : ℕ) → s ≡ Jump r c → ((v : ℕ) × (p ≡ Movei r v) × IsStart P code v) × (IsTarget P code a → ⊥)) → jumpOk P code a p s ≡ true
-  jump-is a p Other h = refl
-  jump-is a p (Movei d v) h = refl
-  jump-is a p MovePc h = refl
-  jump-is a p (Jr n c) h = refl
-  jump-is a p (Jump r c) h =
-      let q = h r c refl in
-      and-i (holds-is r (q .0 .0) (isStart P code) (q .0 .1) (start-is (q .0 .0) (q .0 .2))) (not-target a (q .1))
-  jump-is a p (Load m) h = refl
-  jump-is a p (Store m) h = refl
+  jump-is : (a : ℕ) (p : Item) (s : Shape) → shapeAt P code a ≡ s → Rule3 P code a p → jumpOk P code a (shapeOf p) s ≡ true
+  jump-is a p Other e h = refl
+  jump-is a p (Movei d v) e h = refl
+  jump-is a p MovePc e h = refl
+  jump-is a p (Jr n c) e h = refl
+  jump-is a p (Jump r c) e h =
+      let q = h r c e in
+      and-i (holds-is r (q .0 .0) (isStart P code) (q .0 .1) (start-is (q .0 .0) (q .0 .2))) (not-target _ (q .1))
+  jump-is a p (Load m) e h = refl
+  jump-is a p (Store m) e h = refl
 
   pub is3 : (a : ℕ) (p : Item) → Rule3 P code a p → ok3 P code a p ≡ true
   unfolding ok3
-  is3 a p h = jump-is a (shapeOf p) (shapeAt P code a) h
+  is3 a p h = jump-is a p (shapeAt P code a) refl h
 
   -- rule 4
   pub of4 : (a : ℕ) (p : Item) → ok4 P code a p ≡ true → Rule4 P code a p
@@ -244,12 +275,9 @@ module _ (P : Processor) (code : List ℕ) where
   unfolding ok5
   of5 a p h e =
       let last : Bool = eqb (after P code a) (endOf P code) in
-      let t : Bool = not (isTarget P code a) in
-      let q : (always (shapeOf p) && t) ≡ true =
-      or-cases (not last) (always (shapeOf p) && t) h
+      or-cases (not last) _ h
       (λ n. no-way (sym (not-of last n) ∙ eq-eqb (after P code a) (endOf P code) e))
-      (λ n. n) in
-      (and-l (always (shapeOf p)) t q, no-target a (and-r (always (shapeOf p)) t q))
+      (λ q. (and-l (always (shapeOf p)) _ q, no-target _ (and-r (always (shapeOf p)) _ q)))
 
   pub is5 : (a : ℕ) (p : Item) → Rule5 P code a p → ok5 P code a p ≡ true
   unfolding ok5
@@ -257,29 +285,26 @@ module _ (P : Processor) (code : List ℕ) where
       by (eqb (after P code a) (endOf P code))
       (λ t.
       let q = h (eqb-true (after P code a) (endOf P code) t) in
-      or-r (not (eqb (after P code a) (endOf P code))) (and-i (q .0) (not-target a (q .1))))
-      (λ t. or-l (always (shapeOf p) && not (isTarget P code a)) (not-i t))
+      or-r (not (eqb (after P code a) (endOf P code))) (and-i (q .0) (not-target _ (q .1))))
+      (λ t. or-l _ (not-i t))
 
   -- rule 6
   pub of6 : (a : ℕ) (k : List Range) → ok6 P code a k ≡ true → Rule6 P code a k
   unfolding ok6
   of6 a k h = (
-    λ m e. reaches-of (P .base) (addressRange k m) (subst (λ s. accessOk P code k s ≡ true) e h),
-    λ m e. reaches-of (endOf P code) (addressRange k m) (subst (λ s. accessOk P code k s ≡ true) e h),
+    λ m e. reaches-of _ (addressRange k m) (subst (λ s. accessOk P code k s ≡ true) e h),
+    λ m e. reaches-of _ (addressRange k m) (subst (λ s. accessOk P code k s ≡ true) e h),
   )
 
-  access-is : (k : List Range) (s : Shape)
-      → ((m : Address) → s ≡ Load m → Reaches P code (P .base) (addressRange k m))
-      → ((m : Address) → s ≡ Store m → Reaches P code (endOf P code) (addressRange k m))
-      → accessOk P code k s ≡ true
-  access-is k Other h g = refl
-  access-is k (Movei d v) h g = refl
-  access-is k MovePc h g = refl
-  access-is k (Jr n c) h g = refl
-  access-is k (Jump r c) h g = refl
-  access-is k (Load m) h g = reaches-is (P .base) (addressRange k m) (h m refl)
-  access-is k (Store m) h g = reaches-is (endOf P code) (addressRange k m) (g m refl)
+  access-is : (a : ℕ) (k : List Range) (s : Shape) → shapeAt P code a ≡ s → Rule6 P code a k → accessOk P code k s ≡ true
+  access-is a k Other e h = refl
+  access-is a k (Movei d v) e h = refl
+  access-is a k MovePc e h = refl
+  access-is a k (Jr n c) e h = refl
+  access-is a k (Jump r c) e h = refl
+  access-is a k (Load m) e h = reaches-is _ (addressRange k m) (h .0 m e)
+  access-is a k (Store m) e h = reaches-is _ (addressRange k m) (h .1 m e)
 
   pub is6 : (a : ℕ) (k : List Range) → Rule6 P code a k → ok6 P code a k ≡ true
   unfolding ok6
-  is6 a k h = access-is k (shapeAt P code a) (h .0) (h .1)
+  is6 a k h = access-is a k (shapeAt P code a) refl h

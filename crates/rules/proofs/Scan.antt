@@ -11,10 +11,13 @@ use borrow.Author.Tests.{ltb-true, ltb-false, lt-ltb, le-ltb}
 use Rattle.memory.specs.Processor.{Processor}
 use Rattle.rules.specs.declared.Shape.{Shape}
 use Rattle.rules.specs.declared.Shape.the-variants.{Other, Movei, MovePc, Jr, Jump, Load, Store}
-use Rattle.rules.specs.Reading.{bytesOf, endOf, shapeAt, after, Reads, first, next, Hit, clear, hit, found, scan, firstBad}
+use Rattle.rules.specs.declared.Hit.{Hit}
+use Rattle.rules.specs.declared.Hit.the-variants as H
+use Rattle.rules.specs.Reading.{bytesOf, endOf, shapeAt, after, Reads, first, next}
+use Rattle.rules.specs.Scan.{found, scan, firstBad}
 use Rattle.rules.proofs.Booleans.{by, no-way}
 
-bytes-least : (s : Shape) → 2 ≤ bytesOf s
+pub bytes-least : (s : Shape) → 2 ≤ bytesOf s
 bytes-least Other = omega arith
 bytes-least (Movei d v) = omega arith
 bytes-least MovePc = omega arith
@@ -34,22 +37,22 @@ reads-too y₀ flow′ (next {a} r h) =
     let q = reads-too y₀ flow′ r in
     (flow′ a (q .0), next (q .1) h)
 
-hit-inj : {b c : ℕ} → hit b ≡ hit c → b ≡ c
+hit-inj : {b c : ℕ} → H.At b ≡ H.At c → b ≡ c
 hit-inj e = cc
 
-clear-hit : {A : Type 0} {f : ℕ} → clear ≡ hit f → A
+clear-hit : {A : Type 0} {f : ℕ} → H.Clear ≡ H.At f → A
 clear-hit e = no-way (ap found e)
 
-not-clear : {A : Type 0} → found clear ≡ true → A
+not-clear : {A : Type 0} → found H.Clear ≡ true → A
 not-clear e = no-way e
 
 module _ (P : Processor) (code : List ℕ) (X : Type 0) (x₀ : X) (flow : ℕ → X → X) (test : ℕ → X → Bool) where
   -- the ways a scan goes on
-  pub scan-zero : (a : ℕ) (x : X) → scan P code X x₀ flow test 0 a x ≡ clear
+  pub scan-zero : (a : ℕ) (x : X) → scan P code X x₀ flow test 0 a x ≡ H.Clear
   unfolding scan
   scan-zero a x = refl
 
-  pub scan-past : (n a : ℕ) (x : X) → endOf P code ≤ a → scan P code X x₀ flow test n a x ≡ clear
+  pub scan-past : (n a : ℕ) (x : X) → endOf P code ≤ a → scan P code X x₀ flow test n a x ≡ H.Clear
   unfolding scan
   scan-past zero a x h = refl
   scan-past (suc n) a x h = rw (le-ltb a (endOf P code) h)
@@ -59,18 +62,18 @@ module _ (P : Processor) (code : List ℕ) (X : Type 0) (x₀ : X) (flow : ℕ �
   unfolding scan
   scan-on n a x h e = rw (lt-ltb a (endOf P code) h, e)
 
-  pub scan-hit : (n a : ℕ) (x : X) → a < endOf P code → test a x ≡ false → scan P code X x₀ flow test (suc n) a x ≡ hit a
+  pub scan-hit : (n a : ℕ) (x : X) → a < endOf P code → test a x ≡ false → scan P code X x₀ flow test (suc n) a x ≡ H.At a
   unfolding scan
   scan-hit n a x h e = rw (lt-ltb a (endOf P code) h, e)
 
-  clear-at : {a : ℕ} {x : X} → firstBad P code X x₀ flow test ≡ clear → Reads P code X x₀ flow a x
-      → (n : ℕ) × (endOf P code ≤ a + n) × (scan P code X x₀ flow test n a x ≡ clear)
+  clear-at : {a : ℕ} {x : X} → firstBad P code X x₀ flow test ≡ H.Clear → Reads P code X x₀ flow a x
+      → (n : ℕ) × (endOf P code ≤ a + n) × (scan P code X x₀ flow test n a x ≡ H.Clear)
   unfolding firstBad
   clear-at e first = (length code, omega arith, e)
   clear-at e (next {a} {x} r h) = go (clear-at e r)
     where
-      go : (n : ℕ) × (endOf P code ≤ a + n) × (scan P code X x₀ flow test n a x ≡ clear)
-          → (n : ℕ) × (endOf P code ≤ after P code a + n) × (scan P code X x₀ flow test n (after P code a) (flow a x) ≡ clear)
+      go : (n : ℕ) × (endOf P code ≤ a + n) × (scan P code X x₀ flow test n a x ≡ H.Clear)
+          → (n : ℕ) × (endOf P code ≤ after P code a + n) × (scan P code X x₀ flow test n (after P code a) (flow a x) ≡ H.Clear)
       go (zero, l, s) = absurd (omega arith)
       go (suc n, l, s) =
           by (test a x)
@@ -78,27 +81,14 @@ module _ (P : Processor) (code : List ℕ) (X : Type 0) (x₀ : X) (flow : ℕ �
           (λ t. clear-hit (sym s ∙ scan-hit n a x h t))
 
   -- a clear scan: the test passes at each instruction
-  pub passes : firstBad P code X x₀ flow test ≡ clear → {a : ℕ} {x : X} → Reads P code X x₀ flow a x → a < endOf P code → test a x ≡ true
+  pub passes : firstBad P code X x₀ flow test ≡ H.Clear → {a : ℕ} {x : X} → Reads P code X x₀ flow a x → a < endOf P code → test a x ≡ true
   passes e {a} {x} r h = go (clear-at e r)
     where
-      go : (n : ℕ) × (endOf P code ≤ a + n) × (scan P code X x₀ flow test n a x ≡ clear) → test a x ≡ true
+      go : (n : ℕ) × (endOf P code ≤ a + n) × (scan P code X x₀ flow test n a x ≡ H.Clear) → test a x ≡ true
       go (zero, l, s) = absurd (omega arith)
       go (suc n, l, s) =
           by (test a x) (λ t. t)
           (λ t. clear-hit (sym s ∙ scan-hit n a x h t))
-
-  clear-from : ((a : ℕ) (x : X) → Reads P code X x₀ flow a x → a < endOf P code → test a x ≡ true)
-      → (n : ℕ) {a : ℕ} {x : X} → Reads P code X x₀ flow a x → scan P code X x₀ flow test n a x ≡ clear
-  clear-from all zero {a} {x} r = scan-zero a x
-  clear-from all (suc n) {a} {x} r =
-      by (ltb a (endOf P code))
-      (λ t. let h = ltb-true a (endOf P code) t in scan-on n a x h (all a x r h) ∙ clear-from all n (next r h))
-      (λ t. scan-past (suc n) a x (ltb-false a (endOf P code) t))
-
-  -- and back
-  pub clears : ((a : ℕ) (x : X) → Reads P code X x₀ flow a x → a < endOf P code → test a x ≡ true) → firstBad P code X x₀ flow test ≡ clear
-  unfolding firstBad
-  clears all = clear-from all (length code) first
 
   -- an instruction at which the test fails
   pub record Fails : Type 0 where
@@ -108,57 +98,42 @@ module _ (P : Processor) (code : List ℕ) (X : Type 0) (x₀ : X) (flow : ℕ �
     pub inside : at < endOf P code
     pub fails : test at carried ≡ false
 
-  found-from : (n : ℕ) {a : ℕ} {x : X} → Reads P code X x₀ flow a x → found (scan P code X x₀ flow test n a x) ≡ true → Fails
-  found-from zero {a} {x} r e = not-clear (rw (scan-zero a x) at e)
-  found-from (suc n) {a} {x} r e =
-      by (ltb a (endOf P code))
-      (λ t.
-      let h = ltb-true a (endOf P code) t in
-      by (test a x)
-      (λ u. found-from n (next r h) (rw (scan-on n a x h u) at e))
-      (λ u. record { at = a; carried = x; read = r; inside = h; fails = u }))
-      (λ t. not-clear (rw (scan-past (suc n) a x (ltb-false a (endOf P code) t)) at e))
-
-  pub finds : found (firstBad P code X x₀ flow test) ≡ true → Fails
-  unfolding firstBad
-  finds e = found-from (length code) first e
-
   pub is-found : Fails → found (firstBad P code X x₀ flow test) ≡ true
   is-found f = go (firstBad P code X x₀ flow test) refl
     where
       go : (b : Hit) → firstBad P code X x₀ flow test ≡ b → found b ≡ true
-      go (hit a) e = refl
-      go clear e = let z : _≡_ {A = Bool} true false = sym (passes e (f .read) (f .inside)) ∙ f .fails in no-way (sym z)
+      go (H.At a) e = refl
+      go H.Clear e = let z : _≡_ {A = Bool} true false = sym (passes e (f .read) (f .inside)) ∙ f .fails in no-way (sym z)
 
   -- the scan from any instruction up to the one that it finds finds that one
-  hit-at : {f : ℕ} → firstBad P code X x₀ flow test ≡ hit f → {a : ℕ} {x : X} → Reads P code X x₀ flow a x → a ≤ f → a < endOf P code
-      → (n : ℕ) × (scan P code X x₀ flow test (suc n) a x ≡ hit f)
+  hit-at : {f : ℕ} → firstBad P code X x₀ flow test ≡ H.At f → {a : ℕ} {x : X} → Reads P code X x₀ flow a x → a ≤ f → a < endOf P code
+      → (n : ℕ) × (scan P code X x₀ flow test (suc n) a x ≡ H.At f)
   unfolding firstBad
   hit-at {f} e first l h = go (length code) refl
     where
-      go : (n : ℕ) → length code ≡ n → (k : ℕ) × (scan P code X x₀ flow test (suc k) (P .base) x₀ ≡ hit f)
+      go : (n : ℕ) → length code ≡ n → (k : ℕ) × (scan P code X x₀ flow test (suc k) (P .base) x₀ ≡ H.At f)
       go zero q = absurd (omega arith)
       go (suc n) q = (n, rw (← q) e)
   hit-at {f} e (next {a} {x} r i) l h = go (hit-at e r (omega (arith, after-later P code a)) i)
     where
-      go : (n : ℕ) × (scan P code X x₀ flow test (suc n) a x ≡ hit f) → (n : ℕ) × (scan P code X x₀ flow test (suc n) (after P code a) (flow a x) ≡ hit f)
+      go : (n : ℕ) × (scan P code X x₀ flow test (suc n) a x ≡ H.At f) → (n : ℕ) × (scan P code X x₀ flow test (suc n) (after P code a) (flow a x) ≡ H.At f)
       go (n, s) =
           by (test a x)
           (λ t. more n (sym (scan-on n a x i t) ∙ s))
           (λ t. absurd (omega (arith, hit-inj (sym (scan-hit n a x i t) ∙ s), after-later P code a)))
         where
-          more : (n : ℕ) → scan P code X x₀ flow test n (after P code a) (flow a x) ≡ hit f
-              → (n : ℕ) × (scan P code X x₀ flow test (suc n) (after P code a) (flow a x) ≡ hit f)
+          more : (n : ℕ) → scan P code X x₀ flow test n (after P code a) (flow a x) ≡ H.At f
+              → (n : ℕ) × (scan P code X x₀ flow test (suc n) (after P code a) (flow a x) ≡ H.At f)
           more zero q = clear-hit (sym (scan-zero (after P code a) (flow a x)) ∙ q)
           more (suc n) q = (n, q)
 
   -- what a scan finds is the first: the test passes at each instruction before it, and fails at it
-  pub passes-before : {f : ℕ} → firstBad P code X x₀ flow test ≡ hit f → {a : ℕ} {x : X} → Reads P code X x₀ flow a x → a < endOf P code → a < f → test a x ≡ true
+  pub passes-before : {f : ℕ} → firstBad P code X x₀ flow test ≡ H.At f → {a : ℕ} {x : X} → Reads P code X x₀ flow a x → a < endOf P code → a < f → test a x ≡ true
   passes-before e {a} {x} r h l =
       let q = hit-at e r (omega arith) h in
       by (test a x) (λ t. t) (λ t. absurd (omega (arith, hit-inj (sym (scan-hit (q .0) a x h t) ∙ q .1))))
 
-  hit-from : {f : ℕ} (n : ℕ) {a : ℕ} {x : X} → Reads P code X x₀ flow a x → scan P code X x₀ flow test n a x ≡ hit f → (w : Fails) × (w .at ≡ f)
+  hit-from : {f : ℕ} (n : ℕ) {a : ℕ} {x : X} → Reads P code X x₀ flow a x → scan P code X x₀ flow test n a x ≡ H.At f → (w : Fails) × (w .at ≡ f)
   hit-from {f} zero {a} {x} r e = clear-hit (sym (scan-zero a x) ∙ e)
   hit-from {f} (suc n) {a} {x} r e =
       by (ltb a (endOf P code))
@@ -169,6 +144,13 @@ module _ (P : Processor) (code : List ℕ) (X : Type 0) (x₀ : X) (flow : ℕ �
       (λ u. (record { at = a; carried = x; read = r; inside = h; fails = u }, hit-inj (sym (scan-hit n a x h u) ∙ e))))
       (λ t. clear-hit (sym (scan-past (suc n) a x (ltb-false a (endOf P code) t)) ∙ e))
 
-  pub fails-there : {f : ℕ} → firstBad P code X x₀ flow test ≡ hit f → (w : Fails) × (w .at ≡ f)
+  pub fails-there : {f : ℕ} → firstBad P code X x₀ flow test ≡ H.At f → (w : Fails) × (w .at ≡ f)
   unfolding firstBad
   fails-there e = hit-from (length code) first e
+
+  pub finds : found (firstBad P code X x₀ flow test) ≡ true → Fails
+  finds e = go (firstBad P code X x₀ flow test) refl e
+    where
+      go : (b : Hit) → firstBad P code X x₀ flow test ≡ b → found b ≡ true → Fails
+      go H.Clear q e = not-clear e
+      go (H.At f) q e = fails-there q .0

@@ -11,8 +11,7 @@ use lib.Seq.{getD-set-same}
 use borrow.Author.Tests.{eq-eqb, eqb-true}
 use Rattle.field.specs.Fields.{signedFieldOf}
 use Rattle.isa.specs.Words.{decodeOf}
-use Rattle.values.specs.declared.Flags.{Flags}
-use Rattle.branch.specs.Jump.{chosenOf, takenOf, jrTargetOf}
+use Rattle.branch.specs.Jump.{takenOf, jrTargetOf}
 use Rattle.class.specs.declared.Address.{Address}
 use Rattle.class.specs.declared.Address.the-variants.{At, Offset, Indexed}
 use Rattle.class.specs.declared.Class.{Class}
@@ -30,37 +29,27 @@ use Rattle.state.specs.declared.Core.{Core}
 use Rattle.state.specs.declared.Pending.{Pending}
 use Rattle.state.specs.declared.Pending.the-variants as Q
 use Rattle.state.specs.declared.Activity.the-variants as A
-use Rattle.state.specs.declared.answers.Answer.the-variants.{Running}
+use Rattle.answers.specs.declared.Answer.the-variants.{Running}
 use Rattle.transfers.specs.Transfers.{View, viewFrom, Outcome, unwritten, doneOf, jumpOf, stayOf, moveCounterOf, moveLoadedOf, loadOf, storeOf}
 use Rattle.cpu.specs.Step.{inActive, applyOf, operandsOf, executeOf, advanceOf}
 use Rattle.laws.proofs.Lengths.{Lengths}
 use Rattle.rules.specs.declared.Range.{Range}
 use Rattle.rules.specs.declared.Item.{Item}
 use Rattle.rules.specs.declared.Item.the-variants.{Unbuilt, Built}
-use Rattle.rules.specs.declared.Shape.{Shape}
 use Rattle.rules.specs.declared.Shape.the-variants.{Other, Movei, MovePc, Jr, Jump, Load, Store}
-use Rattle.rules.specs.Reading.{itemIn, itemOf, shapeIn, shapeOf, bytesOf, endOf, itemAt, shapeAt, after}
+use Rattle.rules.specs.declared.Rule.the-variants as N
+use Rattle.rules.specs.Reading.{jumps, breaksSlot, always, itemIn, itemOf, shapeIn, shapeOf, bytesOf, endOf, itemAt, shapeAt, after}
 use Rattle.rules.specs.Known.{full, unknown, exactly, addressRange, isExactly, transfer, transferOf}
-use Rattle.rules.specs.Check.{jumps, breaksSlot, always}
 use Rattle.rules.specs.Rules.{IsTarget, by-jr, by-jump, Rules}
 use Rattle.rules.specs.Safety.{Apart}
+use Rattle.branch.proofs.Conditions.{always-taken}
 use Rattle.rules.proofs.Booleans.{no-way}
 use Rattle.rules.proofs.Ranges.{In, Fits, fits-at, fits-set, fits-write, in-exactly, in-sum, in-and, in-less, in-shifted}
 use Rattle.rules.proofs.Agreement.{Silent, Writes, Gives, reached, Agrees, agrees}
 use Rattle.rules.proofs.Invariant.{Left, Came, by-target, by-fall, Inv, fall, not-last, arrive}
+use Rattle.rules.proofs.Scan.{bytes-least}
 use Rattle.rules.proofs.Fetching.{reads-even, word-same, fetched, fetched-long, behind}
 use Rattle.rules.proofs.Access.{Allowed, allowed}
-
--- condition 0 is always met
-always-taken : (f : Flags) → takenOf 0 f ≡ true
-unfolding takenOf
-always-taken f = go (eqb (f .z) 1) (eqb (chosenOf 0 f) 1)
-  where
-    go : (s t : Bool) → cond (cond s (eqb 0 0) (eqb 0 0)) (cond t (eqb 0 0) (eqb 0 0)) false ≡ true
-    go true true = refl
-    go true false = refl
-    go false true = refl
-    go false false = refl
 
 module _ (P : Processor) (sound : Sound P) (apart : Apart P) (code : List ℕ) (small : length code ≤ P .size) (R : Rules P code) (ram : List ℕ) (v : View) (inv : Inv P code ram v) (lengths : Lengths (P .size) 32 32 ram v) where
   -- an outcome is a completed step, after which the invariant holds of whatever registers are words
@@ -88,7 +77,7 @@ module _ (P : Processor) (sound : Sound P) (apart : Apart P) (code : List ℕ) (
 
       silent : transfer P c n (inv .known) ≡ inv .known → (e : Effect) → Silent e → Steps (applyOf P ram v e)
       unfolding applyOf
-      silent t E.NotBuilt h = absurd h
+      silent t (E.Refused f) h = absurd h
       silent t E.Nothing h = (refl, plainly _ _ _ refl refl (unchanged t))
       silent t (E.Write d r) h = absurd h
       silent t (E.Keep d m) h = absurd h
@@ -111,7 +100,7 @@ module _ (P : Processor) (sound : Sound P) (apart : Apart P) (code : List ℕ) (
 
       writes : (d : ℕ) → transfer P c n (inv .known) ≡ set (inv .known) d full → (e : Effect) → Writes d e → Steps (applyOf P ram v e)
       unfolding applyOf
-      writes d t E.NotBuilt h = absurd h
+      writes d t (E.Refused f) h = absurd h
       writes d t E.Nothing h = absurd h
       writes d t (E.Write r x) h = (refl, plainly _ _ _ refl refl (unknowing d t (r % 32) (x .value) h))
       writes d t (E.Keep r m) h = (refl, plainly _ _ _ refl refl (unknowing d t (r % 32) m h))
@@ -135,7 +124,7 @@ module _ (P : Processor) (sound : Sound P) (apart : Apart P) (code : List ℕ) (
 
         gives : (e : Effect) → Gives d m e → Steps (applyOf P ram v e)
         unfolding applyOf
-        gives E.NotBuilt h = absurd h
+        gives (E.Refused f) h = absurd h
         gives E.Nothing h = absurd h
         gives (E.Write r y) h = (refl, plainly _ _ _ refl refl (knowing (r % 32) (y .value) (h .0) (h .1)))
         gives (E.Keep r k) h = (refl, plainly _ _ _ refl refl (knowing (r % 32) k (h .0) (h .1)))
@@ -169,8 +158,7 @@ module _ (P : Processor) (sound : Sound P) (apart : Apart P) (code : List ℕ) (
     loads e M.Flags h = (refl, loads-long _ e)
     loads e M.Control h = (refl, loads-long _ e)
     loads e M.Divide h = (refl, loads-long _ e)
-    loads e M.Misaligned h = absurd h
-    loads e M.Unmapped h = absurd h
+    loads e (M.Refused f) h = absurd h
 
   -- STORE
   module _ (m : Address) (d n : ℕ) (item : itemAt P code (v .core .pc) ≡ Built (C.Store m d) n) where
@@ -190,8 +178,7 @@ module _ (P : Processor) (sound : Sound P) (apart : Apart P) (code : List ℕ) (
         (refl, moves (C.Store m d) n item refl refl _ _ _ ram (inv .same-code) refl refl tt (λ w. subst (λ t. Fits (cond t unknown (inv .known)) (storeOf ram v k M.Flags .view .active)) (sym h) w))
     stores k M.Control h = (refl, stays _ ram (inv .same-code) refl refl)
     stores k M.Divide h = (refl, stays _ ram (inv .same-code) refl refl)
-    stores k M.Misaligned h = absurd h
-    stores k M.Unmapped h = absurd h
+    stores k (M.Refused f) h = absurd h
 
   -- no jump is pending at an instruction that breaks a slot
   none-pending : breaksSlot (shapeAt P code (v .core .pc)) ≡ true → v .core .pending ≡ Q.None
@@ -209,7 +196,7 @@ module _ (P : Processor) (sound : Sound P) (apart : Apart P) (code : List ℕ) (
   low = reads-even (sound .base-aligned) (inv .is-instruction .read) .1
 
   ends : after P code (v .core .pc) ≤ endOf P code
-  ends = R .rule1 (v .core .pc) (inv .previous) (inv .is-instruction) .1
+  ends = R N.AllBuilt (v .core .pc) (inv .previous) (inv .is-instruction) .1
 
   -- JR and JUMP
   module _ (c : Class) (n : ℕ) (item : itemAt P code (v .core .pc) ≡ Built c n) (is-jump : jumps (shapeIn c n) ≡ true) (slot-breaker : breaksSlot (shapeIn c n) ≡ true) (two : bytesOf (shapeIn c n) ≡ 2) (knows-same : transfer P c n (inv .known) ≡ inv .known) (leaves : Left (shapeIn c n) (v .active)) where
@@ -217,7 +204,7 @@ module _ (P : Processor) (sound : Sound P) (apart : Apart P) (code : List ℕ) (
     none = none-pending (ap breaksSlot (shape-is c n item) ∙ slot-breaker)
 
     four : (after P code (v .core .pc) < endOf P code) × (breaksSlot (shapeAt P code (after P code (v .core .pc))) ≡ false)
-    four = R .rule4 (v .core .pc) (inv .previous) (inv .is-instruction) (ap jumps (shape-is c n item) ∙ is-jump)
+    four = R N.DelaySlot (v .core .pc) (inv .previous) (inv .is-instruction) (ap jumps (shape-is c n item) ∙ is-jump)
 
     goes-on : (p : Pending) → (always (shapeIn c n) ≡ true → p ≡ Q.None → ⊥) → ((t : ℕ) → p ≡ Q.At t → IsTarget P code t) → Fits unknown (v .active) → Inv P code ram (viewFrom (v .active) (v .other) (movedOf (v .core) p))
     unfolding transferOf
@@ -292,11 +279,11 @@ module _ (P : Processor) (sound : Sound P) (apart : Apart P) (code : List ℕ) (
         gives (C.Shlq k d) n item refl d _ _ (in-shifted (getD (v .active) d 0) k) refl e h
     stepped (C.Load m d) n item long e h =
         let a = reached (v .active) (v .core .pc) m in
-        let r = R .rule6 (v .core .pc) (inv .known) (inv .knows) (inv .is-instruction .inside) .0 m (shape-is (C.Load m d) n item) in
+        let r = R N.Access (v .core .pc) (inv .known) (record { read = inv .knows; inside = inv .is-instruction .inside }) .0 m (shape-is (C.Load m d) n item) in
         subst (λ x. Steps (applyOf P ram v x)) (sym (h .1)) (loads m d n item (h .0) (placeOf P a) (allowed P apart code (P .base) (omega arith) (addressRange (inv .known) m) a (in-address m) r))
     stepped (C.Store m d) n item long e h =
         let a = reached (v .active) (v .core .pc) m in
-        let r = R .rule6 (v .core .pc) (inv .known) (inv .knows) (inv .is-instruction .inside) .1 m (shape-is (C.Store m d) n item) in
+        let r = R N.Access (v .core .pc) (inv .known) (record { read = inv .knows; inside = inv .is-instruction .inside }) .1 m (shape-is (C.Store m d) n item) in
         subst (λ x. Steps (applyOf P ram v x)) (sym h) (stores m d n item (getD (v .active) d 0) (placeOf P a) (allowed P apart code (endOf P code) (omega arith) (addressRange (inv .known) m) a (in-address m) r))
     stepped (C.MovePc d) n item long e h =
         subst (λ x. Steps (applyOf P ram v x)) (sym (h .1)) (moves-counter d n item (h .0))
@@ -304,7 +291,7 @@ module _ (P : Processor) (sound : Sound P) (apart : Apart P) (code : List ℕ) (
         subst (λ x. Steps (applyOf P ram v x)) (sym h) (jumping (C.Jump r q) n item refl refl refl refl tt q (getD (v .active) r 0) refl (go (inv .came)))
       where
         rule : ((t : ℕ) × (shapeOf (inv .previous) ≡ Movei r t) × Rattle.rules.specs.Rules.IsStart P code t) × (IsTarget P code (v .core .pc) → ⊥)
-        rule = R .rule3 (v .core .pc) (inv .previous) (inv .is-instruction) r q (shape-is (C.Jump r q) n item)
+        rule = R N.JumpTarget (v .core .pc) (inv .previous) (inv .is-instruction) r q (shape-is (C.Jump r q) n item)
 
         go : Came P code (inv .previous) v → IsTarget P code (getD (v .active) r 0)
         go (by-target g) = absurd (rule .1 g)
@@ -319,25 +306,13 @@ module _ (P : Processor) (sound : Sound P) (apart : Apart P) (code : List ℕ) (
         (record { from = v .core .pc; previous = inv .previous; is-instruction = inv .is-instruction; leads = by-jr k q (shape-is (C.Jr k q) n item) refl }))
 
     -- the word at the counter, as the code has it
-    i : ℕ
-    i = v .core .pc - P .base
-
-    two-bytes : (s : Shape) → 2 ≤ bytesOf s
-    two-bytes Other = omega arith
-    two-bytes (Movei d m) = omega arith
-    two-bytes MovePc = omega arith
-    two-bytes (Jr k q) = omega arith
-    two-bytes (Jump r q) = omega arith
-    two-bytes (Load m) = omega arith
-    two-bytes (Store m) = omega arith
-
     code-word : (j : ℕ) → j + 2 ≤ length code → wordAt code j ≡ wordAt ram j
     code-word j h = ap (λ l. wordAt l j) (sym (inv .same-code)) ∙ word-same (length code) ram j h
 
     executes : v .core .activity ≡ A.Running → advanceOf P ram v ≡ applyOf P ram v (effectIn (decodeOf (wordAt ram (v .core .pc - P .base))) (v .active) (operandsOf (v .active) (v .core) (wordAt ram (v .core .pc - P .base))))
     unfolding advanceOf executeOf
     executes run =
-        let b = two-bytes (shapeAt P code (v .core .pc)) in
+        let b = bytes-least (shapeAt P code (v .core .pc)) in
         rw (eq-eqb _ _ (lengths .ram-length), run, fetched P ram (lengths .ram-length) (v .core .pc) even low (omega (arith, ends, b, small)))
 
     pub step : v .core .activity ≡ A.Running → Steps (advanceOf P ram v)
@@ -345,11 +320,11 @@ module _ (P : Processor) (sound : Sound P) (apart : Apart P) (code : List ℕ) (
     step run = go (itemAt P code (v .core .pc)) refl
       where
         go : (t : Item) → itemAt P code (v .core .pc) ≡ t → Steps (advanceOf P ram v)
-        go Unbuilt e = absurd (R .rule1 (v .core .pc) (inv .previous) (inv .is-instruction) .0 e)
+        go Unbuilt e = absurd (R N.AllBuilt (v .core .pc) (inv .previous) (inv .is-instruction) .0 e)
         go (Built c n) e =
             let j = v .core .pc - P .base in
             let w = wordAt ram j in
-            let b = two-bytes (shapeAt P code (v .core .pc)) in
+            let b = bytes-least (shapeAt P code (v .core .pc)) in
             let word : wordAt code j ≡ w = code-word j (omega (arith, ends, b, low)) in
             let long = wordAt code (j + 4) * 2 ^ 16 + wordAt code (j + 2) in
             let g = agrees (v .active) (w / 32 % 32) (w % 32) (operandsOf (v .active) (v .core) w) refl refl (omega arith) (w / 1024) long c n (ap (λ m. itemIn (decodeOf m) long) (sym word) ∙ e) in

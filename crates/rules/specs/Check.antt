@@ -1,7 +1,7 @@
 -- The loading check as a computed answer: 31, 33, then the six rules, each over the whole code, lowest address first.
 use Prim.Native.Nat.{ℕ, _+_, _%_}
 use mathlib.Core.Bool.{Bool, true, false, not, cond, _&&_, _||_}
-use mathlib.Core.List.{List}
+use mathlib.Core.List.{List, [], _∷_}
 use lib.Dec.{eqb, ltb, leb}
 use lib.ListN.{length, take}
 use Rattle.field.specs.Fields.{signedFieldOf}
@@ -9,47 +9,22 @@ use Rattle.branch.specs.Jump.{jrTargetOf}
 use Rattle.memory.specs.Processor.{Processor}
 use Rattle.rules.specs.declared.Range.{Range}
 use Rattle.rules.specs.declared.Verdict.{Verdict}
-use Rattle.rules.specs.declared.Verdict.the-variants.{Admitted, RamLength, CodeLength, NotBuilt, JrTarget, JumpTarget, DelaySlot, Ending, Access}
+use Rattle.rules.specs.declared.Verdict.the-variants.{Admitted, RamLength, CodeLength, Broken}
+use Rattle.rules.specs.declared.Rule.{Rule}
+use Rattle.rules.specs.declared.Rule.the-variants.{AllBuilt, JrTarget, JumpTarget, DelaySlot, Ending, Access}
+use Rattle.rules.specs.declared.Hit.{Hit}
+use Rattle.rules.specs.declared.Hit.the-variants as H
 use Rattle.rules.specs.declared.Item.{Item}
 use Rattle.rules.specs.declared.Item.the-variants.{Unbuilt, Built}
 use Rattle.rules.specs.declared.Shape.{Shape}
 use Rattle.rules.specs.declared.Shape.the-variants.{Other, Movei, MovePc, Jr, Jump, Load, Store}
-use Rattle.rules.specs.Reading.{shapeOf, endOf, itemAt, shapeAt, after, Hit, clear, hit, found, firstBad}
+use Rattle.rules.specs.Reading.{jumps, breaksSlot, always, shapeOf, endOf, itemAt, shapeAt, after, before}
+use Rattle.rules.specs.Scan.{found, firstBad}
 use Rattle.rules.specs.Known.{unknown, addressRange, isExactly, transferOf}
 
 abbrev pub isBuilt : Item → Bool
 isBuilt Unbuilt = false
 isBuilt (Built c v) = true
-
--- a JR or JUMP
-abbrev pub jumps : Shape → Bool
-jumps Other = false
-jumps (Movei d v) = false
-jumps MovePc = false
-jumps (Jr n c) = true
-jumps (Jump r c) = true
-jumps (Load m) = false
-jumps (Store m) = false
-
--- rule 4's "JR, JUMP, MOVEI or MOVE PC"
-abbrev pub breaksSlot : Shape → Bool
-breaksSlot Other = false
-breaksSlot (Movei d v) = true
-breaksSlot MovePc = true
-breaksSlot (Jr n c) = true
-breaksSlot (Jump r c) = true
-breaksSlot (Load m) = false
-breaksSlot (Store m) = false
-
--- rule 5's "JR or JUMP with condition 0"
-abbrev pub always : Shape → Bool
-always Other = false
-always (Movei d v) = false
-always MovePc = false
-always (Jr n c) = eqb c 0
-always (Jump r c) = eqb c 0
-always (Load m) = false
-always (Store m) = false
 
 -- the instruction before was a MOVEI into r, of a value that the test lets through
 abbrev pub holds : Shape → ℕ → (ℕ → Bool) → Bool
@@ -71,23 +46,23 @@ leads a p (Jump r c) t = holds p r (λ v. eqb v t)
 leads a p (Load m) t = false
 leads a p (Store m) t = false
 
+-- an address in RAM, from a given one on
+abbrev pub inside : Processor → ℕ → ℕ → Bool
+inside P from a = leb from a && ltb a (P .base + P .size)
+
 -- by both ends of its range in RAM from an address on, or one exact built register; and a multiple of 4
 abbrev pub within : Processor → ℕ → Range → Bool
 within P from x =
-    x .aligned && ((leb from (x .low) && ltb (x .high) (P .base + P .size)) || (isExactly x (P .flags) || (isExactly x (P .control) || isExactly x (P .divide))))
+    x .aligned && ((inside P from (x .low) && inside P from (x .high)) || (isExactly x (P .flags) || (isExactly x (P .control) || isExactly x (P .divide))))
 
 module _ (P : Processor) (code : List ℕ) where
-  -- what is carried along where nothing is learnt: the instruction before
-  abbrev pub before : ℕ → Item → Item
-  before a p = itemAt P code a
-
   unfoldable pub isStart : ℕ → Bool
-  isStart t = found (firstBad P code Item Unbuilt before (λ a p. not (eqb a t)))
+  isStart t = found (firstBad P code Item Unbuilt (before P code) (λ a p. not (eqb a t)))
 
   unfoldable pub isTarget : ℕ → Bool
-  isTarget t = found (firstBad P code Item Unbuilt before (λ a p. not (leads a (shapeOf p) (shapeAt P code a) t)))
+  isTarget t = found (firstBad P code Item Unbuilt (before P code) (λ a p. not (leads a (shapeOf p) (shapeAt P code a) t)))
 
-  -- "At the first instruction, at each target, […] all are 0 to 2^32−1 and no."
+  -- what is known at the next instruction
   unfoldable pub learn : ℕ → List Range → List Range
   learn a k = cond (isTarget (after P code a)) unknown (transferOf P (itemAt P code a) k)
 
@@ -137,24 +112,37 @@ module _ (P : Processor) (code : List ℕ) where
   unfoldable pub ok6 : ℕ → List Range → Bool
   ok6 a k = accessOk k (shapeAt P code a)
 
-  -- the first instruction that breaks a rule
+  -- the first instruction at which a test fails that looks at the instruction before
   abbrev pub first : (ℕ → Item → Bool) → Hit
-  first test = firstBad P code Item Unbuilt before test
+  first test = firstBad P code Item Unbuilt (before P code) test
 
   abbrev pub firstAccess : Hit
   firstAccess = firstBad P code (List Range) unknown learn ok6
 
+  -- the first instruction that breaks a rule
+  abbrev pub firstOf : Rule → Hit
+  firstOf AllBuilt = first ok1
+  firstOf JrTarget = first ok2
+  firstOf JumpTarget = first ok3
+  firstOf DelaySlot = first ok4
+  firstOf Ending = first ok5
+  firstOf Access = firstAccess
+
 abbrev pub orElse : Hit → (ℕ → Verdict) → Verdict → Verdict
-orElse clear told rest = rest
-orElse (hit a) told rest = told a
+orElse H.Clear told rest = rest
+orElse (H.At a) told rest = told a
+
+-- the first of some rules that is broken, at its lowest address
+unfoldable pub brokenIn : Processor → List ℕ → List Rule → Verdict → Verdict
+brokenIn P code [] rest = rest
+brokenIn P code (r ∷ rs) rest = orElse (firstOf P code r) (Broken r) (brokenIn P code rs rest)
+
+-- "rules 1 to 6, each over the whole code, lowest address first"
+abbrev pub ruleOrder : List Rule
+ruleOrder = AllBuilt ∷ JrTarget ∷ JumpTarget ∷ DelaySlot ∷ Ending ∷ Access ∷ []
 
 unfoldable pub rulesOf : Processor → List ℕ → Verdict
-rulesOf P code =
-    orElse (first P code (ok1 P code)) NotBuilt
-    (orElse (first P code (ok2 P code)) JrTarget
-    (orElse (first P code (ok3 P code)) JumpTarget
-    (orElse (first P code (ok4 P code)) DelaySlot
-    (orElse (first P code (ok5 P code)) Ending (orElse (firstAccess P code) Access Admitted)))))
+rulesOf P code = brokenIn P code ruleOrder Admitted
 
 -- "code length not 4 to 4,096, or not a multiple of 4"
 abbrev pub isLength : Processor → ℕ → Bool

@@ -2,5 +2,7 @@ pub mod Verdicts
 pub mod Reading
 pub mod Known
 pub mod Rules
+pub mod Scan
 pub mod Check
+pub mod KnownRows
 pub mod Safety

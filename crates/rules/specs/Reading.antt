@@ -1,8 +1,8 @@
 -- The code read straight through: what stands at each address, and what is carried along from one instruction to the next.
-use Prim.Native.Nat.{ℕ, zero, suc, _+_, _-_, _*_, _^_, _<_}
-use mathlib.Core.Bool.{Bool, true, false, cond}
+use Prim.Native.Nat.{ℕ, _+_, _-_, _*_, _^_, _<_}
+use mathlib.Core.Bool.{Bool, true, false}
 use mathlib.Core.List.{List}
-use lib.Dec.{ltb}
+use lib.Dec.{eqb}
 use lib.ListN.{length}
 use Rattle.isa.specs.declared.Decoded.{Decoded}
 use Rattle.isa.specs.declared.Decoded.the-variants as D
@@ -20,7 +20,7 @@ use Rattle.memory.specs.Memory.{wordAt}
 -- What stands at an address.
 abbrev pub itemIn : Decoded → ℕ → Item
 itemIn (D.Built i) long = Built (classOf i) long
-itemIn D.NotBuilt long = Unbuilt
+itemIn (D.Refused f) long = Unbuilt
 
 -- "MOVEI is followed by the low word, then the high word."
 unfoldable pub itemOf : List ℕ → ℕ → Item
@@ -57,6 +57,36 @@ bytesOf (Jump r c) = 2
 bytesOf (Load m) = 2
 bytesOf (Store m) = 2
 
+-- a JR or JUMP
+abbrev pub jumps : Shape → Bool
+jumps Other = false
+jumps (Movei d v) = false
+jumps MovePc = false
+jumps (Jr n c) = true
+jumps (Jump r c) = true
+jumps (Load m) = false
+jumps (Store m) = false
+
+-- rule 4's "JR, JUMP, MOVEI or MOVE PC"
+abbrev pub breaksSlot : Shape → Bool
+breaksSlot Other = false
+breaksSlot (Movei d v) = true
+breaksSlot MovePc = true
+breaksSlot (Jr n c) = true
+breaksSlot (Jump r c) = true
+breaksSlot (Load m) = false
+breaksSlot (Store m) = false
+
+-- rule 5's "JR or JUMP with condition 0"
+abbrev pub always : Shape → Bool
+always Other = false
+always (Movei d v) = false
+always MovePc = false
+always (Jr n c) = eqb c 0
+always (Jump r c) = eqb c 0
+always (Load m) = false
+always (Store m) = false
+
 module _ (P : Processor) (code : List ℕ) where
   -- the first address behind the code
   abbrev pub endOf : ℕ
@@ -72,26 +102,11 @@ module _ (P : Processor) (code : List ℕ) where
   abbrev pub after : ℕ → ℕ
   after a = a + bytesOf (shapeAt a)
 
+  -- what is carried along where nothing is learnt: the instruction before
+  abbrev pub before : ℕ → Item → Item
+  before a p = itemAt a
+
 -- Reading straight through comes to the address a, and carries x there. `flow a x` is what the instruction at a makes of x.
 pub data Reads (P : Processor) (code : List ℕ) (X : Type 0) (x₀ : X) (flow : ℕ → X → X) : ℕ → X → Type 0 where
   first : Reads P code X x₀ flow (P .base) x₀
   next : {a : ℕ} {x : X} → Reads P code X x₀ flow a x → a < endOf P code → Reads P code X x₀ flow (after P code a) (flow a x)
-
--- What a scan of the code finds: nothing, or the first place.
-pub data Hit : Type 0 where
-  clear : Hit
-  hit : ℕ → Hit
-
-abbrev pub found : Hit → Bool
-found clear = false
-found (hit a) = true
-
-module _ (P : Processor) (code : List ℕ) (X : Type 0) (x₀ : X) (flow : ℕ → X → X) (test : ℕ → X → Bool) where
-  -- the first instruction from a on, of at most n, at which the test fails
-  unfoldable pub scan : ℕ → ℕ → X → Hit
-  scan zero a x = clear
-  scan (suc n) a x =
-      cond (ltb a (endOf P code)) (cond (test a x) (scan n (after P code a) (flow a x)) (hit a)) clear
-
-  unfoldable pub firstBad : Hit
-  firstBad = scan (length code) (P .base) x₀

@@ -1,6 +1,7 @@
 // What the loading check works with: what it reads, what it knows of a register, and what it answers.
 ghost use mathlib.Core.Path.{_≡_};
-ghost use Rattle.rules.specs.Verdicts.{numberOf, addressOf};
+ghost use Prim.Native.Nat.{_<_};
+ghost use Rattle.rules.specs.Verdicts.{ruleNumber, numberOf, addressOf};
 use class::Address;
 use class::Class;
 
@@ -29,17 +30,44 @@ pub enum Shape {
     Store(Address),
 }
 
-// The answer of the check. A broken rule tells the address of the instruction at fault.
+// The loading rules, in the order of their numbers.
+pub enum Rule {
+    AllBuilt,
+    JrTarget,
+    JumpTarget,
+    DelaySlot,
+    Ending,
+    Access,
+}
+
+// What a pass over the code finds: nothing, or the address of the first instruction at which its test fails.
+pub enum Hit {
+    Clear,
+    At(u32),
+}
+
+// The answer of the check. A broken rule is told with the address of the instruction at fault.
 pub enum Verdict {
     Admitted,
     RamLength,
     CodeLength,
-    NotBuilt(u32),
-    JrTarget(u32),
-    JumpTarget(u32),
-    DelaySlot(u32),
-    Ending(u32),
-    Access(u32),
+    Broken(Rule, u32),
+}
+
+impl Rule {
+    // Paper 01's number of the rule.
+    pub fn number(self) -> u32
+        ensures { λ r. ⌜ (r ≡ ruleNumber self) × (r < 7) ⌝ }
+    {
+        match self {
+            Rule::AllBuilt => 1,
+            Rule::JrTarget => 2,
+            Rule::JumpTarget => 3,
+            Rule::DelaySlot => 4,
+            Rule::Ending => 5,
+            Rule::Access => 6,
+        }
+    }
 }
 
 impl Verdict {
@@ -51,12 +79,7 @@ impl Verdict {
             Verdict::Admitted => 0,
             Verdict::RamLength => 31,
             Verdict::CodeLength => 33,
-            Verdict::NotBuilt(_) => 21,
-            Verdict::JrTarget(_) => 22,
-            Verdict::JumpTarget(_) => 23,
-            Verdict::DelaySlot(_) => 24,
-            Verdict::Ending(_) => 25,
-            Verdict::Access(_) => 26,
+            Verdict::Broken(r, _) => 20 + r.number(),
         }
     }
 
@@ -68,12 +91,7 @@ impl Verdict {
             Verdict::Admitted => 0,
             Verdict::RamLength => 0,
             Verdict::CodeLength => 0,
-            Verdict::NotBuilt(a) => a,
-            Verdict::JrTarget(a) => a,
-            Verdict::JumpTarget(a) => a,
-            Verdict::DelaySlot(a) => a,
-            Verdict::Ending(a) => a,
-            Verdict::Access(a) => a,
+            Verdict::Broken(_, a) => a,
         }
     }
 }

@@ -3,7 +3,7 @@ ghost use mathlib.Core.Path.{_≡_};
 ghost use Prim.Native.Nat.{_≤_};
 ghost use lib.ListN.{drop};
 ghost use Rattle.scanner.specs.Lines.{digits, decimal, hexadecimal, digitValue, numberIn, keyedIn};
-ghost use Rattle.scanner.specs.Places.{lineAt};
+ghost use Rattle.scanner.specs.Places.{placedIn};
 
 // A line that was found: its number, and the place behind it.
 pub enum Found {
@@ -13,21 +13,21 @@ pub enum Found {
 
 // The decimal number that a text begins with, and the line feed behind it.
 pub fn first_number(s: &[u8]) -> Found
-    ensures { λ r. ⌜ lineAt (now (s .entry)) r ≡ numberIn decimal 0 0 (now (s .entry)) ⌝ }
+    ensures { λ r. ⌜ r ≡ placedIn (now (s .entry)) (numberIn decimal 0 0 (now (s .entry))) ⌝ }
 {
     number(s, 0, 10, 1, 10)
 }
 
 // The line at a place, with a decimal number.
 pub fn decimal_line(s: &[u8], at: usize, key: &[u8]) -> Found
-    ensures { λ r. ⌜ lineAt (now (s .entry)) r ≡ keyedIn decimal (now (key .entry)) (drop at (now (s .entry))) ⌝ }
+    ensures { λ r. ⌜ r ≡ placedIn (now (s .entry)) (keyedIn decimal (now (key .entry)) (drop at (now (s .entry)))) ⌝ }
 {
     line(s, at, key, 10, 1, 10)
 }
 
 // The line at a place, with a number of eight hexadecimal digits.
 pub fn hex_line(s: &[u8], at: usize, key: &[u8]) -> Found
-    ensures { λ r. ⌜ lineAt (now (s .entry)) r ≡ keyedIn hexadecimal (now (key .entry)) (drop at (now (s .entry))) ⌝ }
+    ensures { λ r. ⌜ r ≡ placedIn (now (s .entry)) (keyedIn hexadecimal (now (key .entry)) (drop at (now (s .entry)))) ⌝ }
 {
     line(s, at, key, 16, 8, 8)
 }
@@ -35,7 +35,7 @@ pub fn hex_line(s: &[u8], at: usize, key: &[u8]) -> Found
 // The line at a place: the key, then a number in the base, of so many digits at least and at most.
 fn line(s: &[u8], at: usize, key: &[u8], base: u64, least: u32, most: u32) -> Found
     requires { ⌜ base ≤ 16 ⌝ }
-    ensures { λ r. ⌜ lineAt (now (s .entry)) r ≡ keyedIn (digits base least most) (now (key .entry)) (drop at (now (s .entry))) ⌝ }
+    ensures { λ r. ⌜ r ≡ placedIn (now (s .entry)) (keyedIn (digits base least most) (now (key .entry)) (drop at (now (s .entry)))) ⌝ }
 {
     let mut next = at;
     let mut i = 0;
@@ -55,7 +55,7 @@ fn line(s: &[u8], at: usize, key: &[u8], base: u64, least: u32, most: u32) -> Fo
 // The number at a place, and the line feed behind it.
 fn number(s: &[u8], at: usize, base: u64, least: u32, most: u32) -> Found
     requires { ⌜ base ≤ 16 ⌝ }
-    ensures { λ r. ⌜ lineAt (now (s .entry)) r ≡ numberIn (digits base least most) 0 0 (drop at (now (s .entry))) ⌝ }
+    ensures { λ r. ⌜ r ≡ placedIn (now (s .entry)) (numberIn (digits base least most) 0 0 (drop at (now (s .entry)))) ⌝ }
 {
     let mut n: u64 = 0;
     let mut count: u32 = 0;

@@ -44,10 +44,13 @@ pub fn run_text(out: &mut [u8; 1024], answer: u32, address: u32, count: u32) -> 
         ),
         12 => fill(
             out,
-            b"12: the counter has left the memory.\n\
-              What happened: the next instruction should stand at address @, where no whole instruction can stand.\n\
+            b"12: there is no whole instruction to go on with.\n\
+              What happened: the next instruction should begin at address @, and the memory has no whole \
+              instruction there.\n\
               Where to look: at the line pc of the card, which says @. Below F03000 and above F03FFF is outside \
-              the memory. If the last digit is 1, 3, 5, 7, 9, B, D or F, a jump went to half an instruction.\n\
+              the memory. If the last digit is 1, 3, 5, 7, 9, B, D or F, a jump led to the middle of a word. If \
+              the address is F03FFC or F03FFE, a MOVEI begins there, which has three words, and the memory ends \
+              before the last.\n\
               What to do: see that the image is the right one, copy it again and run it once more. If 12 comes \
               back, run make loadcheck on it, which names an instruction that is not safe. Give both answers to \
               the person who wrote the program.\n",

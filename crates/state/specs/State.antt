@@ -1,17 +1,15 @@
 -- The state, and how it changes in one part.
 use Prim.Native.Nat.{ℕ, _+_, _*_, _/_, _%_, _^_}
-use mathlib.Core.Path.{_≡_}
 use mathlib.Core.Bool.{cond}
 use lib.Dec.{eqb}
 use Rattle.values.specs.declared.Flags.{Flags}
 use Rattle.state.specs.declared.Core.{Core}
-use Rattle.state.specs.declared.live.Live.{Live}
 use Rattle.state.specs.declared.Pending.{Pending}
 use Rattle.state.specs.declared.Pending.the-variants.{None, At}
 use Rattle.state.specs.declared.Activity.{Activity}
 use Rattle.state.specs.declared.Activity.the-variants.{Stopped}
 
--- How the loop of a run and the state block tell a pending jump: a bit, and the target.
+-- How the state block tells a pending jump: a bit, and the target.
 abbrev pub waitingOf : Pending → ℕ
 waitingOf None = 0
 waitingOf (At t) = 1
@@ -19,18 +17,6 @@ waitingOf (At t) = 1
 abbrev pub targetOf : Pending → ℕ
 targetOf None = 0
 targetOf (At t) = t
-
-abbrev pub pendingOf : ℕ → ℕ → Pending
-pendingOf waiting target = cond (eqb waiting 0) None (At target)
-
--- What the loop of a run holds, read as a state.
-abbrev pub coreOf : Activity → Live → Core
-coreOf a l =
-    record { bank = l .bank; flags = l .flags; pc = l .pc; pending = pendingOf (l .waiting) (l .target); remainder = l .remainder; mode = l .mode; accumulator = l .accumulator; activity = a }
-
--- From l to r the state that they stand for changes so, running or stopped.
-abbrev pub Becomes : Live → (Core → Core) → Live → Type 0
-Becomes l change r = (a : Activity) → coreOf a r ≡ change (coreOf a l)
 
 -- "the next instruction runs, then the counter becomes the target."
 abbrev pub counterOf : Pending → ℕ → ℕ

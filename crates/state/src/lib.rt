@@ -1,11 +1,11 @@
-// The state without its registers: as callers see it, and as the loop of a run holds it.
+// The state without its registers: as the definitions of an instruction have it, and as the loop of a run holds it.
 ghost use mathlib.Core.Path.{_≡_};
 ghost use Prim.Native.Nat.{_<_};
-ghost use Rattle.state.specs.State.{flagWordOf, waitingOf, targetOf, coreOf};
+ghost use Rattle.state.specs.State.{flagWordOf, waitingOf, targetOf};
+ghost use Rattle.state.specs.Live.{coreOf};
 use live::Live;
 use values::Flags;
 
-pub mod answers;
 pub mod live;
 
 // The target of a taken jump whose following instruction has not run yet.
@@ -19,15 +19,17 @@ pub enum Activity {
     Stopped,
 }
 
+// The inner form, in numbers: the definitions of an instruction and of the loop are over it. The state that callers see is that of the
+// crate `machine`, which alone turns one into the other.
 pub struct Core {
-    // The active bank, 0 or 1.
+    // The active bank, a bit.
     pub bank: u32,
-    // Each is 0 or 1.
+    // Each is a bit, which every step keeps.
     pub flags: Flags,
     pub pc: u32,
     pub pending: Pending,
     pub remainder: u32,
-    // The divide mode, 0 or 1.
+    // The divide mode, a bit.
     pub mode: u32,
     pub accumulator: u32,
     pub activity: Activity,

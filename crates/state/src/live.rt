@@ -1,7 +1,8 @@
 // The state of a running machine, without its registers, as the loop of a run holds it: plain numbers, each of which the
 // compiler can keep in a register. Its functions give it anew with one part changed.
 ghost use mathlib.Core.Path.{_≡_};
-ghost use Rattle.state.specs.State.{counterOf, pendingOf, coreOf, Becomes, movedOf, skippedOf, withFlags, withRemainder, withAccumulator, withMode, withFlagRegister};
+ghost use Rattle.state.specs.Live.{pendingOf, coreOf, Becomes};
+ghost use Rattle.state.specs.State.{counterOf, movedOf, skippedOf, withFlags, withRemainder, withAccumulator, withMode, withFlagRegister};
 use crate::Activity;
 use crate::Core;
 use crate::Pending;
@@ -41,7 +42,7 @@ fn pending(waiting: u32, target: u32) -> Pending
 }
 
 impl Live {
-    // As callers see it.
+    // As the definitions have it.
     pub fn core(self, activity: Activity) -> Core
         ensures { λ r. ⌜ r ≡ coreOf activity self ⌝ }
     {

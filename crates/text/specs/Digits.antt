@@ -4,7 +4,7 @@ use mathlib.Core.Bool.{cond}
 use mathlib.Core.List.{List, [], _∷_, _++_}
 use lib.Dec.{ltb}
 
--- '0' to '9', then 'A' to 'F': "capitals in hex"
+-- '0' to '9', then 'A' to 'F': capitals, as in paper 01's card.
 abbrev pub digitOf : ℕ → ℕ
 digitOf d = cond (ltb d 10) (48 + d) (55 + d)
 

@@ -12,15 +12,13 @@ use Rattle.memory.specs.declared.Immediate.the-variants as I
 use Rattle.memory.specs.declared.Place.{Place}
 use Rattle.memory.specs.declared.Place.the-variants as M
 use Rattle.state.specs.declared.Core.{Core}
-use Rattle.state.specs.declared.live.Live.{Live}
 use Rattle.state.specs.declared.Pending.{Pending}
 use Rattle.state.specs.declared.Pending.the-variants.{None, At}
-use Rattle.state.specs.declared.Activity.the-variants as A
-use Rattle.state.specs.declared.answers.Answer.{Answer}
-use Rattle.state.specs.declared.answers.Answer.the-variants.{Running, BadCounter, Misaligned, Unmapped, JumpPending}
-use Rattle.state.specs.Answers.{numberOf}
-use Rattle.state.specs.State.{coreOf, movedOf, skippedOf, withMode, withControl, withFlagRegister, flagRegisterOf, bankIn}
-use Rattle.transfers.specs.declared.Moved.{Moved}
+use Rattle.answers.specs.declared.Fault.{Fault}
+use Rattle.answers.specs.declared.Fault.the-variants.{JumpPending}
+use Rattle.answers.specs.declared.Answer.{Answer}
+use Rattle.answers.specs.declared.Answer.the-variants.{Running, Faulted}
+use Rattle.state.specs.State.{movedOf, skippedOf, withMode, withControl, withFlagRegister, flagRegisterOf, bankIn}
 use Rattle.transfers.specs.declared.Loaded.{Loaded}
 use Rattle.transfers.specs.declared.Loaded.the-variants as L
 
@@ -47,25 +45,16 @@ pub record Change : Type 0 where
 abbrev pub outcome : Change → List ℕ → List ℕ → List ℕ → Outcome
 outcome m a o ram = record { answer = m .answer; view = viewFrom a o (m .core); ram = ram }
 
--- What the loop of a run holds, read as the state of a running machine.
-abbrev pub running : Live → Core
-running k = coreOf A.Running k
-
-abbrev pub movedWith : Answer → Live → Moved
-movedWith answer k = record { answer = answer; live = k }
-
--- An instruction's answer in the loop, read as a change: 1 tells that it was completed and stopped the machine.
-unfoldable pub changeOf : Moved → Change
-changeOf m =
-    cond (eqb (numberOf (m .answer)) 1) (record { answer = Running; core = coreOf A.Stopped (m .live) }) (record { answer = m .answer; core = running (m .live) })
-
 -- The registers and RAM as they were.
 abbrev pub unwritten : List ℕ → View → Change → Outcome
 unwritten ram v m = outcome m (v .active) (v .other) ram
 
--- A fault: "state and RAM […] before the faulty step".
 abbrev pub stayOf : Answer → Core → Change
 stayOf answer k = record { answer = answer; core = k }
+
+-- A fault: "state and RAM […] before the faulty step".
+abbrev pub faultedOf : Fault → Core → Change
+faultedOf f k = stayOf (Faulted f) k
 
 -- A completed instruction with nothing pending after it.
 abbrev pub doneOf : Core → Change
@@ -73,7 +62,7 @@ doneOf k = stayOf Running (movedOf k None)
 
 -- "A taken jump makes the target pending"; 15 is "JR, JUMP, MOVEI or MOVE PC while a jump is pending".
 abbrev pub jumpOf : Core → Pending → ℕ → ℕ → Change
-jumpOf k (At t) condition target = stayOf JumpPending k
+jumpOf k (At t) condition target = faultedOf JumpPending k
 jumpOf k None condition target =
     cond (takenOf condition (k .flags)) (stayOf Running (movedOf k (At target))) (doneOf k)
 
@@ -87,15 +76,15 @@ written m a = record { moved = m; active = a }
 
 abbrev pub immediateWritten : List ℕ → Core → ℕ → Immediate → Written
 immediateWritten a k d (I.Long n) = written (stayOf Running (skippedOf k)) (set a (d % 32) n)
-immediateWritten a k d I.Outside = written (stayOf BadCounter k) a
+immediateWritten a k d (I.Refused f) = written (faultedOf f k) a
 
 abbrev pub moveImmediateOf : Processor → List ℕ → List ℕ → Core → Pending → ℕ → Written
-moveImmediateOf P ram a k (At t) d = written (stayOf JumpPending k) a
+moveImmediateOf P ram a k (At t) d = written (faultedOf JumpPending k) a
 moveImmediateOf P ram a k None d = immediateWritten a k d (immediateOf P ram (k .pc))
 
 -- "MOVE PC gives its own address (ruled)."
 abbrev pub moveCounterOf : List ℕ → Core → Pending → ℕ → Written
-moveCounterOf a k (At t) d = written (stayOf JumpPending k) a
+moveCounterOf a k (At t) d = written (faultedOf JumpPending k) a
 moveCounterOf a k None d = written (doneOf k) (set a (d % 32) (k .pc))
 
 -- What a LOAD finds: "F02114h reads 2001h", "F0211Ch reads the remainder".
@@ -104,13 +93,11 @@ loadOf k ram (M.Ram at) = L.Long (longAt ram at)
 loadOf k ram M.Flags = L.Long (flagRegisterOf k)
 loadOf k ram M.Control = L.Long 0x2001
 loadOf k ram M.Divide = L.Long (k .remainder)
-loadOf k ram M.Misaligned = L.Misaligned
-loadOf k ram M.Unmapped = L.Unmapped
+loadOf k ram (M.Refused f) = L.Refused f
 
 abbrev pub moveLoadedOf : List ℕ → Core → ℕ → Loaded → Written
 moveLoadedOf a k d (L.Long n) = written (doneOf k) (set a (d % 32) n)
-moveLoadedOf a k d L.Misaligned = written (stayOf Misaligned k) a
-moveLoadedOf a k d L.Unmapped = written (stayOf Unmapped k) a
+moveLoadedOf a k d (L.Refused f) = written (faultedOf f k) a
 
 -- Whether a write to the flag register leaves the active bank.
 abbrev pub sameBank : Core → ℕ → Bool
@@ -123,5 +110,4 @@ storeOf ram v n M.Flags =
     outcome (doneOf (withFlagRegister (v .core) n)) (cond (sameBank (v .core) n) (v .active) (v .other)) (cond (sameBank (v .core) n) (v .other) (v .active)) ram
 storeOf ram v n M.Control = unwritten ram v (doneOf (withControl (v .core) n))
 storeOf ram v n M.Divide = unwritten ram v (doneOf (withMode (v .core) n))
-storeOf ram v n M.Misaligned = unwritten ram v (stayOf Misaligned (v .core))
-storeOf ram v n M.Unmapped = unwritten ram v (stayOf Unmapped (v .core))
+storeOf ram v n (M.Refused f) = unwritten ram v (faultedOf f (v .core))

@@ -4,7 +4,10 @@ ghost use lib.ListN.{length};
 ghost use Rattle.memory.specs.Memory.{placeOf};
 ghost use Rattle.memory.specs.Processor.{gpu};
 ghost use Rattle.state.specs.State.{withControl};
-ghost use Rattle.transfers.specs.Transfers.{movedWith, changeOf, running, doneOf, jumpOf, loadOf, storeOf, written, moveImmediateOf, moveCounterOf, moveLoadedOf, outcome, viewFrom};
+ghost use Rattle.transfers.specs.Loop.{movedWith, changeOf, running};
+ghost use Rattle.transfers.specs.Transfers.{faultedOf, doneOf, jumpOf, loadOf, storeOf, written, moveImmediateOf, moveCounterOf, moveLoadedOf, outcome, viewFrom};
+use answers::Answer;
+use answers::Fault;
 use branch::taken;
 use memory::Immediate;
 use memory::Place;
@@ -14,7 +17,6 @@ use memory::long_at;
 use memory::put_long;
 use registers::put;
 use registers::settle;
-use state::answers::Answer;
 use state::flag_word;
 use state::live::Live;
 
@@ -28,17 +30,23 @@ pub struct Moved {
 // What a load finds.
 pub enum Loaded {
     Long(u32),
-    Misaligned,
-    Unmapped,
+    Refused(Fault),
 }
 
-pub fn stay(answer: Answer, k: Live) -> Moved
+fn stay(answer: Answer, k: Live) -> Moved
     ensures { λ r. ⌜ r ≡ movedWith answer k ⌝ }
 {
     Moved {
         answer: answer,
         live: k,
     }
+}
+
+// An instruction that is not completed changes nothing.
+pub fn fault(f: Fault, k: Live) -> Moved
+    ensures { λ r. ⌜ changeOf r ≡ faultedOf f (running k) ⌝ }
+{
+    stay(Answer::Faulted(f), k)
 }
 
 // A whole instruction, with nothing pending after it.
@@ -52,7 +60,7 @@ pub fn jump(k: Live, condition: u32, target: u32) -> Moved
     ensures { λ r. ⌜ changeOf r ≡ jumpOf (running k) (running k .pending) condition target ⌝ }
 {
     if k.waiting != 0 {
-        return stay(Answer::JumpPending, k);
+        return fault(Fault::JumpPending, k);
     }
     let f = k.flags;
     if taken(condition, f) {
@@ -75,8 +83,7 @@ fn load(k: Live, ram: &[u8], address: u32) -> Loaded
         }
         Place::Control => Loaded::Long(0x2001),
         Place::Divide => Loaded::Long(k.remainder),
-        Place::Misaligned => Loaded::Misaligned,
-        Place::Unmapped => Loaded::Unmapped,
+        Place::Refused(f) => Loaded::Refused(f),
     }
 }
 
@@ -115,8 +122,7 @@ pub fn store(
         }
         Place::Control => control(k, v),
         Place::Divide => done(k.with_mode(v)),
-        Place::Misaligned => stay(Answer::Misaligned, k),
-        Place::Unmapped => stay(Answer::Unmapped, k),
+        Place::Refused(f) => fault(f, k),
     }
 }
 
@@ -126,11 +132,11 @@ pub fn move_immediate(a: &mut [u32; 32], k: Live, ram: &[u8], d: u32) -> Moved
     ensures { λ r. ⌜ written (changeOf r) (now (a .exit)) ≡ moveImmediateOf gpu (now (ram .entry)) (now (a .entry)) (running k) (running k .pending) d ⌝ }
 {
     if k.waiting != 0 {
-        return stay(Answer::JumpPending, k);
+        return fault(Fault::JumpPending, k);
     }
     let i = fetch_long(ram, k.pc);
     match i {
-        Immediate::Outside => stay(Answer::BadCounter, k),
+        Immediate::Refused(f) => fault(f, k),
         Immediate::Long(v) => {
             put(a, d, v);
             stay(Answer::Running, k.skipped())
@@ -143,7 +149,7 @@ pub fn move_counter(a: &mut [u32; 32], k: Live, d: u32) -> Moved
     ensures { λ r. ⌜ written (changeOf r) (now (a .exit)) ≡ moveCounterOf (now (a .entry)) (running k) (running k .pending) d ⌝ }
 {
     if k.waiting != 0 {
-        return stay(Answer::JumpPending, k);
+        return fault(Fault::JumpPending, k);
     }
     put(a, d, k.pc);
     done(k)
@@ -156,8 +162,7 @@ pub fn move_loaded(a: &mut [u32; 32], k: Live, ram: &[u8], d: u32, address: u32)
 {
     let l = load(k, ram, address);
     match l {
-        Loaded::Misaligned => stay(Answer::Misaligned, k),
-        Loaded::Unmapped => stay(Answer::Unmapped, k),
+        Loaded::Refused(f) => fault(f, k),
         Loaded::Long(v) => {
             put(a, d, v);
             done(k)

@@ -12,6 +12,7 @@ signedOf x = toZ w32 x
 abbrev pub signed16Of : ℕ → ℤ
 signed16Of x = toZ w16 (x % 2 ^ 16)
 
--- The 32 bits of a signed number: itself modulo 2^32.
+-- The 32 bits of a signed number, −2^31 to 2^31 − 1: itself, or 2^32 more where it is negative. Every use keeps to that range;
+-- outside of it a positive number would stay as it is, and one below −2^32 would give 0.
 abbrev pub unsignedOf : ℤ → ℕ
 unsignedOf z = ofZ w32 z

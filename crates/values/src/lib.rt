@@ -1,6 +1,6 @@
 // Values of 32 bits: results and flags of the operations, and two's complement.
 //
-// A register is a u32, and a flag is 0 or 1.
+// A register is a u32. A flag is a number too, for speed: a bit, which every instruction keeps.
 ghost use mathlib.Core.Path.{_≡_};
 ghost use Rattle.values.specs.Results.{bitOf, flagsOf};
 

@@ -44,7 +44,7 @@ fn computed(sum: u32, r: Computed) -> u32 {
 
 fn effect(sum: u32, e: Effect) -> u32 {
     match e {
-        Effect::NotBuilt => mix(sum, 0),
+        Effect::Refused(_) => mix(sum, 0),
         Effect::Nothing => mix(sum, 1),
         Effect::Write(d, r) => computed(mix2(sum, 2, d), r),
         Effect::Keep(d, v) => mix3(sum, 3, d, v),
@@ -109,7 +109,7 @@ fn class(sum: u32, c: Class) -> u32 {
 
 fn word(n: u32, sum: u32) -> u32 {
     match decoder::decode((n % 65536) as u16) {
-        Decoded::NotBuilt => mix(sum, 0),
+        Decoded::Refused(_) => mix(sum, 0),
         Decoded::Built(i) => class(mix2(sum, 1, isa::encode(i) as u32), class_of(i)),
     }
 }

@@ -93,11 +93,17 @@ item-at-requires c κs = omega (arith, c .loop-test .taken, c .before .before .b
 access-requires : tie.Need-access-requires Inv-loop μ-loop
 access-requires c κs = (x-read (c .before .before) .1, y-read c .1)
 
+-- the address fits, as the offset is below 4,096
+cast-address : tie.Need-cast-t30 Inv-loop μ-loop
+cast-address c =
+    let h = here (c .before .before .before .before .before .before .before .before) in
+    omega (arith, h .inside, h .fits)
+
 returns : tie.Need-returns Inv-loop μ-loop
 returns c =
     let y = c .before .before in
     let l = turn y in
-    came-hit _ _ _ _ _ _ (l .loop .k) (l .loop .inv .1) (here (y .before .before .before .before .before .before) .inside) (rule6 (c .before) ∙ not-true _ (c .if3 .taken))
+    sym (came-hit _ _ _ _ _ _ (l .loop .k) (l .loop .inv .1) (here (y .before .before .before .before .before .before) .inside) (rule6 (c .before) ∙ not-true _ (c .if3 .taken)))
 
 add-n : tie.Need-add-n Inv-loop μ-loop
 add-n c =
@@ -217,7 +223,7 @@ loop-again-4 c =
     )
 
 returns-2 : tie.Need-returns-2 Inv-loop μ-loop
-returns-2 c = let l = c .before .loop in came-past _ _ _ _ _ _ (l .k) (l .inv .1) (c .loop-test .left)
+returns-2 c = let l = c .before .loop in sym (came-past _ _ _ _ _ _ (l .k) (l .inv .1) (c .loop-test .left))
 
 pub first-access-spec : {M : Type 1} → statement M
 first-access-spec =
@@ -241,6 +247,8 @@ first-access-spec =
     (λ c. search needs)
     (λ c κs. search needs)
     access-requires
+    cast-address
+    (λ c. search needs)
     returns
     (λ c κs. search needs)
     (λ c κs. search needs)

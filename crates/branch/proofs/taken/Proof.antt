@@ -1,25 +1,14 @@
 -- `taken` meets its contract: two bits that are zero ask nothing, whatever the flag.
 -- Assumes nothing.
 use borrow.Author.Needs.{needs}
-use mathlib.Core.Path.{_≡_, refl, sym, _∙_}
-use mathlib.Core.Bool.{Bool, true, false, cond}
-use Prim.Native.Nat.{ℕ}
-use lib.Dec.{eqb}
-use Rattle.branch.specs.Jump.{metOf, takenOf}
+use mathlib.Core.Path.{sym, _∙_}
+use Rattle.branch.specs.Jump.{takenOf}
+use Rattle.branch.proofs.Conditions.{always-taken}
 use Rattle.branch.proofs.taken.Statement.{statement}
 use Rattle.branch.proofs.taken.Tie as tie
 
-nothing-asked : (flag : ℕ) → metOf 0 0 flag ≡ true
-nothing-asked flag = go (eqb flag 1)
-  where
-    go : (t : Bool) → cond t true true ≡ true
-    go true = refl
-    go false = refl
-
 returns : tie.Need-returns
-unfolding takenOf
-returns c =
-    rw (c .if1 .taken, nothing-asked (c .before .args .f .z), nothing-asked (c .before .args .f .c))
+returns c = rw (c .if1 .taken) (sym (always-taken (c .before .args .f)))
 
 returns-2 : tie.Need-returns-2
 unfolding takenOf

@@ -7,7 +7,8 @@ use mathlib.Core.Path.{_≡_, sym, _∙_}
 use Prim.Native.Nat.{_+_, _-_, _≤_}
 use lib.ListN.{length}
 use Rattle.memory.specs.Processor.{gpu}
-use Rattle.transfers.specs.Transfers.{viewFrom, running}
+use Rattle.transfers.specs.Loop.{running}
+use Rattle.transfers.specs.Transfers.{viewFrom}
 use Rattle.cycle.specs.Runs.{runsOf}
 use Rattle.cycle.proofs.Runs.{spent, continues, leaves}
 use Rattle.cycle.proofs.cycle.Statement.{statement}

@@ -4,7 +4,7 @@ use borrow.Author.Needs.{needs}
 use mathlib.Core.Path.{_∙_, sym, ap}
 use denote.Ref.{now}
 use Rattle.memory.specs.Processor.{gpu}
-use Rattle.state.specs.State.{coreOf}
+use Rattle.state.specs.Live.{coreOf}
 use Rattle.transfers.specs.Transfers.{viewFrom}
 use Rattle.cycle.specs.Runs.{runsOf}
 use Rattle.cycle.proofs.Runs.{stopped}

@@ -8,10 +8,10 @@ use Rattle.explain.proofs.main.Statement.{statement}
 use Rattle.explain.proofs.main.Tie as tie
 
 array-share-prefix-out : tie.Need-array-share-prefix-out
-array-share-prefix-out c = within (c .explain .ensures)
+array-share-prefix-out c = within (c .explained .ensures .0)
 
 slice-aggregate-write-all : tie.Need-slice-aggregate-write-all
-slice-aggregate-write-all c = sym (length-take-le _ _ (within (c .before .explain .ensures)))
+slice-aggregate-write-all c = sym (length-take-le _ _ (within (c .before .explained .ensures .0)))
 
 pub main-spec : {M : Type 1} → statement M
 main-spec =

@@ -6,7 +6,9 @@ use Rattle.kiosk.proofs.gpu_check.Statement.{statement}
 use Rattle.kiosk.proofs.gpu_check.Tie as tie
 
 returns : tie.Need-returns
-returns c = (rw (c .address .ensures, c .before .number .ensures, c .before .before .check .ensures .0), display)
+returns c =
+    let k = c .before .before .check .ensures in
+    (rw (c .address .ensures, c .before .number .ensures, k .0), (k .1 .0, display))
 
 pub gpu-check-spec : {M : Type 1} → statement M
 gpu-check-spec =

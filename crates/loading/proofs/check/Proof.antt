@@ -1,4 +1,4 @@
--- `check` meets its contract, and Demand 3 is proved of the graphics processor.
+-- `check` meets its contract; demand 3, what refusals tell, how programs go on, and the rows are cited.
 -- Assumes nothing.
 use borrow.Author.Needs.{needs}
 use borrow.Author.Tests.{leb-true, eq-eqb, ne-eqb, not-true, not-false}
@@ -12,23 +12,29 @@ use lib.Seq.{length-take-le}
 use Rattle.memory.specs.Processor.{gpu}
 use Rattle.rules.specs.Check.{isLength, checkOf}
 use Rattle.rules.proofs.Booleans.{and-l, and-r}
-use Rattle.rules.proofs.Examples.{gpu-demand3}
+use Rattle.rules.proofs.KnownRows.{known-rows}
+use Rattle.rules.specs.KnownRows.{KnownRows}
+use Rattle.rules.specs.Safety.{Demand3, Tells, GoesOn}
+use Rattle.rules.proofs.Examples.{gpu-demand3, gpu-tells, gpu-goes-on}
 use Rattle.loading.proofs.check.Statement.{statement}
 use Rattle.loading.proofs.check.Tie as tie
 
 most : (C : ℕ) → isLength gpu C ≡ true → C ≤ 4096
 most C e = leb-true C 4096 (and-l (leb C 4096) (eqb (C % 4) 0) (and-r (leb 4 C) (leb C 4096 && eqb (C % 4) 0) e))
 
+admission : (Demand3 gpu × Tells gpu × GoesOn gpu) × KnownRows
+admission = ((gpu-demand3, gpu-tells, gpu-goes-on), known-rows)
+
 returns : tie.Need-returns
 unfolding checkOf
-returns c = (rw (ne-eqb _ _ (c .if1 .taken)), gpu-demand3)
+returns c = (rw (ne-eqb _ _ (c .if1 .taken)), admission)
 
 returns-2 : tie.Need-returns-2
 unfolding checkOf
 returns-2 c = (
   rw
       (eq-eqb _ _ (c .before .before .if1 .left), ← c .before .is-length .ensures, not-true (c .before .is-length .result) (c .if2 .taken)),
-  gpu-demand3,
+  admission,
 )
 
 slice-aggregate-rules : tie.Need-slice-aggregate-rules
@@ -49,7 +55,7 @@ returns-3 c =
     let l = c .before .before .before in (
       rw (eq-eqb _ _ (l .before .if1 .left), ← l .is-length .ensures, not-false (l .is-length .result) (c .before .before .if2 .left))
           (c .rules .ensures),
-      gpu-demand3,
+      admission,
     )
 
 pub check-spec : {M : Type 1} → statement M

@@ -2,40 +2,27 @@
 -- Assumes nothing.
 use borrow.Author.Needs.{needs}
 use native.Mathlib.Omega.{arith}
-use mathlib.Core.Path.{sym, _∙_}
-use Prim.Native.Nat.{_<_}
-use Rattle.loading.proofs.Says.{or-hit, or-clear, later-on, later-last, from-lowest, in-code}
+use mathlib.Core.Path.{sym, subst, _∙_}
+use Rattle.passes.proofs.Lowest.{Lowest, lowest-of}
+use Rattle.loading.proofs.Order.{none-broken, one-broken}
 use Rattle.loading.proofs.rules.Statement.{statement}
 use Rattle.loading.proofs.rules.Tie as tie
 
-told-requires : tie.Need-told-requires
-told-requires c κs =
-    let h = c .before .before .before in
-    let l = h .before in
-    let s = l .before .before .before .before .before .before .before in
-    omega (arith, in-code _ _ (l .lowest-broken .ensures) _ (c .first-broken .ensures) (omega (arith, h .if1 .taken)), s .pre)
-
 returns : tie.Need-returns
 returns c =
-    let h = c .before .before .before .before in
-    let w = h .before .lowest-broken .ensures in
-    let e = c .before .first-broken .ensures in
-    let l : h .before .lowest-broken .result < 6 = omega (arith, h .if1 .taken) in
+    let f = c .before in
+    let r = f .before .before .before in
+    let t = r .before in
+    let w = subst (Lowest _ 1 6) (sym (t .before .lowest-broken .ensures)) (lowest-of _ 6 (omega arith)) in
     c .told .ensures
-    ∙ sym (from-lowest _ _ w ∙ later-on _ _ l ∙ or-hit _ _ _ e (in-code _ _ w _ e l) _ _)
+    ∙ rw (f .first-broken .ensures, r .rule-of .ensures) (sym (one-broken _ _ w (omega (arith, t .if1 .taken))))
 
 returns-2 : tie.Need-returns-2
 returns-2 c =
-    let a = c .before .before in
-    let h = a .before .before in
-    c .told2 .ensures
-    ∙ sym (from-lowest _ _ (h .before .lowest-broken .ensures) ∙ later-last _ _ (omega (arith, h .if1 .left)) ∙ or-hit _ _ _ (a .first-access .ensures) (c .before .if2 .taken) _ _)
-
-returns-3 : tie.Need-returns-3
-returns-3 c =
-    let a = c .before in
-    let h = a .before .before in
-    sym (from-lowest _ _ (h .before .lowest-broken .ensures) ∙ later-last _ _ (omega (arith, h .if1 .left)) ∙ or-clear _ _ _ (a .first-access .ensures) (c .if2 .left) _ _)
+    let f = c .before in
+    let t = f .before .before in
+    let w = subst (Lowest _ 1 6) (sym (t .before .lowest-broken .ensures)) (lowest-of _ 6 (omega arith)) in
+    c .told2 .ensures ∙ rw (f .first-access .ensures) (sym (none-broken _ _ w (omega (arith, t .if1 .left))))
 
 pub rules-spec : {M : Type 1} → statement M
 rules-spec =
@@ -44,9 +31,9 @@ rules-spec =
     (λ c κs. search needs)
     (λ c κs. search needs)
     (λ c κs. search needs)
-    told-requires
+    (λ c κs. search needs)
+    (λ c κs. search needs)
     returns
     (λ c κs. search needs)
     (λ c κs. search needs)
-    returns-2
-    returns-3)
+    returns-2)

@@ -5,12 +5,17 @@ use Rattle.ranges.proofs.allows.Statement.{statement}
 use Rattle.ranges.proofs.allows.Tie as tie
 
 returns : tie.Need-returns
-returns c = rw (c .both .ensures, c .before .either .ensures, c .before .before .is-register .ensures, c .before .before .before .is-inside .ensures)
+returns c =
+    let r = c .before .before in
+    let b = r .before in
+    rw (c .both2 .ensures, c .before .either .ensures, r .is-register .ensures, b .both .ensures, b .before .is-inside2 .ensures, b .before .before .is-inside .ensures)
 
 pub allows-spec : {M : Type 1} → statement M
 allows-spec =
     tie.close
     (tie.spec
+    (λ c κs. search needs)
+    (λ c κs. search needs)
     (λ c κs. search needs)
     (λ c κs. search needs)
     (λ c κs. search needs)

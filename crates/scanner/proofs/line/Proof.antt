@@ -1,11 +1,12 @@
 -- `line` meets its contract. The loop's invariant: what is left of the key and of the text gives what the whole gives.
 -- Assumes nothing.
 use Prim.Native.Nat.{_-_}
-use mathlib.Core.Path.{_≡_, refl, sym, _∙_}
+use mathlib.Core.Path.{_≡_, refl, sym, ap, _∙_}
 use native.Mathlib.Numerals.{add-one}
 use native.Mathlib.Omega.{arith}
 use lib.ListN.{length, drop}
 use Rattle.scanner.specs.Lines.{digits, keyedIn}
+use Rattle.scanner.specs.Places.{placedIn}
 use Rattle.scanner.proofs.Steps.{key-read, key-cut, key-other, key-next}
 use Rattle.scanner.proofs.line.Statement.{statement}
 use Rattle.scanner.proofs.line.Tie as tie
@@ -23,7 +24,7 @@ loop-holds c = refl
 returns : tie.Need-returns Inv-loop μ-loop
 returns c =
     let at-test = c .before in
-    sym (key-cut _ _ _ _ _ (at-test .loop-test .taken) (c .if1 .taken)) ∙ at-test .before .loop .inv
+    ap (placedIn _) (sym (key-cut _ _ _ _ _ (at-test .loop-test .taken) (c .if1 .taken)) ∙ at-test .before .loop .inv)
 
 shared-slice-read-if2 : tie.Need-shared-slice-read-if2 Inv-loop μ-loop
 shared-slice-read-if2 c = omega arith
@@ -35,7 +36,7 @@ returns-2 : tie.Need-returns-2 Inv-loop μ-loop
 returns-2 c =
     let at-if = c .before .before .before in
     let at-test = at-if .before in
-    sym (key-other _ _ _ _ _ (at-test .loop-test .taken) (at-if .if1 .left) (c .if2 .taken)) ∙ at-test .before .loop .inv
+    ap (placedIn _) (sym (key-other _ _ _ _ _ (at-test .loop-test .taken) (at-if .if1 .left) (c .if2 .taken)) ∙ at-test .before .loop .inv)
 
 add-next : tie.Need-add-next Inv-loop μ-loop
 add-next c = omega arith
@@ -60,7 +61,7 @@ returns-3 : tie.Need-returns-3 Inv-loop μ-loop
 returns-3 c =
     let at-loop = c .before .before in
     let a = at-loop .before .before .before .args in
-    c .number .ensures ∙ sym (key-read _ (a .key .now) (a .s .now) (at-loop .loop .i) (at-loop .loop .next) (c .before .loop-test .left)) ∙ at-loop .loop .inv
+    c .number .ensures ∙ ap (placedIn _) (sym (key-read _ (a .key .now) (a .s .now) (at-loop .loop .i) (at-loop .loop .next) (c .before .loop-test .left)) ∙ at-loop .loop .inv)
 
 pub line-spec : {M : Type 1} → statement M
 line-spec =

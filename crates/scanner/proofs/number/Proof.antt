@@ -8,6 +8,8 @@ use native.Mathlib.Numerals.{add-one}
 use native.Mathlib.Omega.{arith}
 use lib.ListN.{length, drop, drop-of-length-le}
 use Rattle.scanner.specs.Lines.{digits, numberIn}
+use Rattle.scanner.specs.Places.{placedIn}
+use Rattle.scanner.proofs.Places.{place-behind}
 use Rattle.scanner.proofs.Steps.{too-few, whole, no-digit, too-many, too-large, next}
 use Rattle.scanner.proofs.number.Statement.{statement}
 use Rattle.scanner.proofs.number.Tie as tie
@@ -30,7 +32,7 @@ returns : tie.Need-returns Inv-loop μ-loop
 returns c =
     let at-test = c .before .before .before in
     let l = at-test .before .loop in
-    sym (too-few _ _ _ _ _ (at-test .loop-test .taken) (c .before .if1 .taken) (c .if2 .taken)) ∙ l .inv .1
+    ap (placedIn _) (sym (too-few _ _ _ _ _ (at-test .loop-test .taken) (c .before .if1 .taken) (c .if2 .taken)) ∙ l .inv .1)
 
 cast-t17 : tie.Need-cast-t17 Inv-loop μ-loop
 cast-t17 c = omega arith
@@ -42,7 +44,8 @@ returns-2 : tie.Need-returns-2 Inv-loop μ-loop
 returns-2 c =
     let at-test = c .before .before .before in
     let l = at-test .before .loop in
-    rw add-one (sym (whole _ _ _ _ _ (at-test .loop-test .taken) (c .before .if1 .taken) (c .if2 .left)) ∙ l .inv .1)
+    let inside = at-test .loop-test .taken in
+    rw add-one (sym (place-behind _ _ (at-test .before .before .before .args .s .now) inside) ∙ ap (placedIn _) (sym (whole _ _ _ _ _ inside (c .before .if1 .taken) (c .if2 .left)) ∙ l .inv .1))
 
 digit-value-requires : tie.Need-digit-value-requires Inv-loop μ-loop
 digit-value-requires c κs = omega arith
@@ -51,13 +54,14 @@ returns-3 : tie.Need-returns-3 Inv-loop μ-loop
 returns-3 c =
     let at-digit = c .before in
     let at-test = at-digit .before .before .before in
-    sym (no-digit _ _ _ _ _ (at-test .loop-test .taken) (at-digit .before .if1 .left) (rw (at-digit .digit-value .ensures) at (c .if3 .taken))) ∙ at-test .before .loop .inv .1
+    ap (placedIn _) (sym (no-digit _ _ _ _ _ (at-test .loop-test .taken) (at-digit .before .if1 .left) (rw (at-digit .digit-value .ensures) at (c .if3 .taken))) ∙ at-test .before .loop .inv .1)
 
 returns-4 : tie.Need-returns-4 Inv-loop μ-loop
 returns-4 c =
     let at-digit = c .before .before in
     let at-test = at-digit .before .before .before in
-    sym
+    ap (placedIn _)
+    (sym
     (too-many
     _
     _
@@ -68,7 +72,7 @@ returns-4 c =
     (at-digit .before .if1 .left)
     (rw (at-digit .digit-value .ensures) at (c .before .if3 .left))
     (c .if4 .taken))
-    ∙ at-test .before .loop .inv .1
+    ∙ at-test .before .loop .inv .1)
 
 product : (l : tie.At-loop Inv-loop μ-loop) → l .loop .n * l .before .before .args .base ≤ 4294967295 * 16
 product l = mul-le-mul (l .loop .inv .0) (l .before .before .pre)
@@ -83,7 +87,8 @@ returns-5 : tie.Need-returns-5 Inv-loop μ-loop
 returns-5 c =
     let at-digit = c .before .before .before in
     let at-test = at-digit .before .before .before in
-    sym
+    ap (placedIn _)
+    (sym
     (too-large
     _
     _
@@ -95,7 +100,7 @@ returns-5 c =
     (rw (at-digit .digit-value .ensures) at (c .before .before .if3 .left))
     (c .before .if4 .left)
     (rw (at-digit .digit-value .ensures) at (c .if5 .taken)))
-    ∙ at-test .before .loop .inv .1
+    ∙ at-test .before .loop .inv .1)
 
 add-count : tie.Need-add-count Inv-loop μ-loop
 add-count c = omega arith
@@ -131,7 +136,7 @@ loop-again c =
 
 returns-6 : tie.Need-returns-6 Inv-loop μ-loop
 unfolding numberIn
-returns-6 c = sym (ap (numberIn _ _ _) (drop-of-length-le _ (c .loop-test .left))) ∙ c .before .loop .inv .1
+returns-6 c = ap (placedIn _) (sym (ap (numberIn _ _ _) (drop-of-length-le _ (c .loop-test .left))) ∙ c .before .loop .inv .1)
 
 pub number-spec : {M : Type 1} → statement M
 number-spec =

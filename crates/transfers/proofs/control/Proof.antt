@@ -4,8 +4,8 @@ use borrow.Author.Needs.{needs}
 use borrow.Author.Tests.{eq-eqb, ne-eqb}
 use Rattle.state.specs.declared.Activity.the-variants as A
 use mathlib.Core.Path.{ap}
-use Rattle.state.specs.declared.answers.Answer.the-variants.{Running}
-use Rattle.transfers.specs.Transfers.{changeOf}
+use Rattle.answers.specs.declared.Answer.the-variants.{Running}
+use Rattle.transfers.specs.Loop.{changeOf}
 use Rattle.transfers.proofs.control.Statement.{statement}
 use Rattle.transfers.proofs.control.Tie as tie
 

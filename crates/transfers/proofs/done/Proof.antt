@@ -2,7 +2,7 @@
 -- Assumes nothing.
 use borrow.Author.Needs.{needs}
 use Rattle.state.specs.declared.Activity.the-variants as A
-use Rattle.transfers.specs.Transfers.{changeOf}
+use Rattle.transfers.specs.Loop.{changeOf}
 use Rattle.transfers.proofs.done.Statement.{statement}
 use Rattle.transfers.proofs.done.Tie as tie
 

@@ -4,19 +4,18 @@ use borrow.Author.Needs.{needs}
 use borrow.Author.Tests.{eq-eqb, ne-eqb}
 use mathlib.Core.Path.{_∙_, sym}
 use Rattle.state.specs.declared.Activity.the-variants as A
-use Rattle.transfers.specs.Transfers.{changeOf}
+use Rattle.transfers.specs.Loop.{changeOf}
 use Rattle.transfers.proofs.jump.Statement.{statement}
 use Rattle.transfers.proofs.jump.Tie as tie
 
 returns : tie.Need-returns
-unfolding changeOf
-returns c = rw (c .stay .ensures, ne-eqb _ _ (c .before .if1 .taken))
+returns c = rw (c .fault .ensures, ne-eqb _ _ (c .before .if1 .taken))
 
 returns-2 : tie.Need-returns-2
 unfolding changeOf
 returns-2 c =
     let t = c .before .before .before in
-    rw (c .stay2 .ensures, c .before .moved .ensures A.Running, eq-eqb _ _ (t .before .before .if1 .left), sym (t .taken .ensures) ∙ c .before .before .if2 .taken)
+    rw (c .stay .ensures, c .before .moved .ensures A.Running, eq-eqb _ _ (t .before .before .if1 .left), sym (t .taken .ensures) ∙ c .before .before .if2 .taken)
 
 returns-3 : tie.Need-returns-3
 returns-3 c =

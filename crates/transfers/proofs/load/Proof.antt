@@ -25,10 +25,7 @@ returns-4 : tie.Need-returns-4
 returns-4 c = rw (← c .before .before .locate .ensures, c .enum-told3 .given .1)
 
 returns-5 : tie.Need-returns-5
-returns-5 c = rw (← c .before .before .locate .ensures, c .enum-told4 .given .1)
-
-returns-6 : tie.Need-returns-6
-returns-6 c = rw (← c .before .before .locate .ensures, c .enum-told5 .given .1)
+returns-5 c = rw (← c .before .before .before .locate .ensures, c .before .p2 .given .1)
 
 pub load-spec : {M : Type 1} → statement M
 load-spec =
@@ -42,10 +39,8 @@ load-spec =
     (λ c. search needs)
     (λ c. search needs)
     (λ c. search needs)
-    (λ c. search needs)
     returns
     returns-2
     returns-3
     returns-4
-    returns-5
-    returns-6)
+    returns-5)

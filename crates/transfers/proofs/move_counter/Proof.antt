@@ -2,13 +2,11 @@
 -- Assumes nothing.
 use borrow.Author.Needs.{needs}
 use borrow.Author.Tests.{eq-eqb, ne-eqb}
-use Rattle.transfers.specs.Transfers.{changeOf}
 use Rattle.transfers.proofs.move_counter.Statement.{statement}
 use Rattle.transfers.proofs.move_counter.Tie as tie
 
 returns : tie.Need-returns
-unfolding changeOf
-returns c = rw (c .stay .ensures, ne-eqb _ _ (c .before .if1 .taken))
+returns c = rw (c .fault .ensures, ne-eqb _ _ (c .before .if1 .taken))
 
 returns-2 : tie.Need-returns-2
 returns-2 c = rw (c .done .ensures, c .before .put .ensures, eq-eqb _ _ (c .before .before .before .if1 .left))

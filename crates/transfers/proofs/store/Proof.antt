@@ -6,7 +6,7 @@ use mathlib.Core.Path.{_∙_, sym, ap}
 use Rattle.memory.specs.Processor.{gpu}
 use Rattle.memory.proofs.Places.{ram-holds, gpu-sound}
 use Rattle.state.specs.declared.Activity.the-variants as A
-use Rattle.transfers.specs.Transfers.{changeOf, doneOf}
+use Rattle.transfers.specs.Transfers.{doneOf}
 use Rattle.transfers.proofs.store.Statement.{statement}
 use Rattle.transfers.proofs.store.Tie as tie
 
@@ -27,12 +27,7 @@ returns-4 : tie.Need-returns-4
 returns-4 c = rw (c .done3 .ensures ∙ ap doneOf (c .before .with-mode .ensures A.Running), ← c .before .before .before .before .locate .ensures, c .before .before .enum-told3 .given .1)
 
 returns-5 : tie.Need-returns-5
-unfolding changeOf
-returns-5 c = rw (c .stay .ensures, ← c .before .before .before .locate .ensures, c .before .enum-told4 .given .1)
-
-returns-6 : tie.Need-returns-6
-unfolding changeOf
-returns-6 c = rw (c .stay2 .ensures, ← c .before .before .before .locate .ensures, c .before .enum-told5 .given .1)
+returns-5 c = rw (c .fault .ensures, ← c .before .before .before .before .locate .ensures, c .before .before .p2 .given .1)
 
 pub store-spec : {M : Type 1} → statement M
 store-spec =
@@ -54,11 +49,8 @@ store-spec =
     (λ c. search needs)
     (λ c κs. search needs)
     (λ c. search needs)
-    (λ c κs. search needs)
-    (λ c. search needs)
     returns
     returns-2
     returns-3
     returns-4
-    returns-5
-    returns-6)
+    returns-5)

@@ -16,7 +16,7 @@ returns c =
     let s = r .before in
     let a = s .before .before .before .args in
     rw (c .write .ensures .counted, c .write .ensures .stored, c .before .before .told .ensures)
-    (ap (λ t. printedFrom t (now (a .out))) (r .run .ensures)
+    (ap (λ t. printedFrom t (now (a .out))) (r .run .ensures .0)
     ∙ ap (λ t. printedFrom (runOf gpu (now (a .ram)) t 1000000) (now (a .out))) (s .start .ensures))
 
 pub print-spec : {M : Type 1} → statement M

@@ -5,7 +5,7 @@ use Rattle.card.proofs.image.told.Statement.{statement}
 use Rattle.card.proofs.image.told.Tie as tie
 
 returns : tie.Need-returns
-returns c = rw (c .flag-word .ensures, c .before .number .ensures)
+returns c = rw (c .flag-register .ensures, c .before .number .ensures)
 
 pub told-spec : {M : Type 1} → statement M
 told-spec =

@@ -1,18 +1,23 @@
--- `advance` meets its contract: the length is known and the machine runs; the word is there, or it answers so at once.
+-- `advance` meets its contract: the length is known and the machine runs; the word is there, or the one refusal of a fetch.
 -- Assumes nothing.
 use borrow.Author.Needs.{needs}
 use borrow.Author.Tests.{eq-eqb}
-use mathlib.Core.Path.{_∙_}
-use Rattle.transfers.specs.Transfers.{changeOf}
+use mathlib.Core.Path.{_∙_, sym}
+use denote.Ref.{now}
+use Rattle.memory.specs.Processor.{gpu}
+use Rattle.memory.proofs.Refusals.{counter-alone}
 use Rattle.cpu.specs.Step.{advanceOf}
 use Rattle.cpu.proofs.execute.advance.Statement.{statement}
 use Rattle.cpu.proofs.execute.advance.Tie as tie
 
 returns : tie.Need-returns
-unfolding advanceOf changeOf
+unfolding advanceOf
 returns c =
     let l = c .before .before .before in
-    rw (c .stay .ensures, eq-eqb _ _ (l .before .before .before .pre), ← l .fetch .ensures, c .before .enum-told .given .1)
+    let s = l .before .before .before in
+    let told = c .before .enum-told .given .1 in
+    let alone = counter-alone gpu (now (s .args .ram)) (s .args .k .pc) _ (sym (l .fetch .ensures) ∙ told) in
+    rw (c .fault .ensures, eq-eqb _ _ (s .pre), ← l .fetch .ensures, told, alone)
 
 returns-2 : tie.Need-returns-2
 unfolding advanceOf

@@ -9,8 +9,7 @@ use lib.ListN.{length}
 use Rattle.memory.specs.Processor.{gpu}
 use Rattle.rules.specs.declared.Item.{Item}
 use Rattle.rules.specs.declared.Item.the-variants.{Unbuilt}
-use Rattle.rules.specs.Reading.{bytesOf}
-use Rattle.rules.specs.Check.{before}
+use Rattle.rules.specs.Reading.{bytesOf, before}
 use Rattle.passes.specs.Passes.{testOf}
 use Rattle.reading.proofs.Came.{Came, came-first, came-on, came-hit, came-past}
 use Rattle.reading.proofs.Offsets.{item-at}
@@ -34,10 +33,16 @@ obeys-requires c κs =
     let s = c .before .before .before .before in
     (record { fits = s .pre .0; inside = c .before .loop-test .taken; same = c .item-at .ensures }, s .pre .1, s .pre .2)
 
+-- the address fits, as the offset is below 4,096
+cast-address : tie.Need-cast-t11 Inv-loop μ-loop
+cast-address c =
+    let l = c .before .before .before in
+    omega (arith, l .loop-test .taken, l .before .before .before .pre .0)
+
 returns : tie.Need-returns Inv-loop μ-loop
 returns c =
     let l = c .before .before .before .before .loop in
-    came-hit _ _ _ _ _ _ (l .p) (l .inv) (c .before .before .before .loop-test .taken) (rw (← c .before .obeys .ensures) (not-true _ (c .if1 .taken)))
+    sym (came-hit _ _ _ _ _ _ (l .p) (l .inv) (c .before .before .before .loop-test .taken) (rw (← c .before .obeys .ensures) (not-true _ (c .if1 .taken))))
 
 shape-of-requires : tie.Need-shape-of-requires Inv-loop μ-loop
 shape-of-requires c κs = search needs
@@ -65,7 +70,7 @@ loop-again c =
     (rw (← c .before .before .before .obeys .ensures) (not-false _ (c .before .before .if1 .left))))
 
 returns-2 : tie.Need-returns-2 Inv-loop μ-loop
-returns-2 c = let l = c .before .loop in came-past _ _ _ _ _ _ (l .p) (l .inv) (c .loop-test .left)
+returns-2 c = let l = c .before .loop in sym (came-past _ _ _ _ _ _ (l .p) (l .inv) (c .loop-test .left))
 
 pub first-broken-spec : {M : Type 1} → statement M
 first-broken-spec =
@@ -76,6 +81,8 @@ first-broken-spec =
     loop-holds
     item-at-requires
     obeys-requires
+    cast-address
+    (λ c. search needs)
     returns
     shape-of-requires
     size-requires

@@ -2,10 +2,11 @@
 -- Assumes nothing.
 use borrow.Author.Needs.{needs}
 use Prim.Native.Nat.{_-_}
-use mathlib.Core.Path.{_∙_, ap}
+use mathlib.Core.Path.{sym, subst, _∙_, ap}
 use native.Mathlib.Omega.{arith}
 use lib.ListN.{length}
 use Rattle.rules.specs.Reading.{bytesOf}
+use Rattle.passes.proofs.Lowest.{Lowest, lowest-of, lowest-is}
 use Rattle.passes.proofs.Least.{Least, least-first, least-on, least-past}
 use Rattle.passes.proofs.broken.lowest_broken.Statement.{statement}
 use Rattle.passes.proofs.broken.lowest_broken.Tie as tie
@@ -45,11 +46,12 @@ loop-again : tie.Need-loop-again Inv-loop μ-loop
 loop-again c =
     let t = c .before .before .before in
     let l = t .before in
-    least-on _ _ (l .before .loop .inv) (c .before .before .lowest-here .ensures) (l .loop-test .taken) (t .item-at .ensures) _
+    let h = c .before .before .lowest-here .ensures in
+    least-on _ _ (l .before .loop .inv) (subst (Lowest _ 1 _) (sym h) (lowest-of _ _ (l .before .loop .inv .one))) (l .loop-test .taken) (t .item-at .ensures) _
     (c .size .ensures .0 ∙ ap bytesOf (c .before .shape-of .ensures))
 
 returns : tie.Need-returns Inv-loop μ-loop
-returns c = least-past _ (c .before .loop .inv) (c .loop-test .left)
+returns c = lowest-is _ (least-past _ (c .before .loop .inv) (c .loop-test .left))
 
 pub lowest-broken-spec : {M : Type 1} → statement M
 lowest-broken-spec =

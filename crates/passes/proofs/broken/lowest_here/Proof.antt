@@ -9,6 +9,7 @@ use denote.Ref.{now}
 use lib.Dec.{ltb}
 use Rattle.rules.proofs.Booleans.{by}
 use Rattle.passes.specs.Passes.{testOf}
+use Rattle.passes.proofs.Lowest.{lowest-is}
 use Rattle.passes.proofs.broken.lowest_here.Statement.{statement}
 use Rattle.passes.proofs.broken.lowest_here.Tie as tie
 
@@ -28,12 +29,13 @@ obeys-requires c κs = let s = c .before .before .before in (s .pre .1, s .pre .
 returns : tie.Need-returns Inv-loop μ-loop
 returns c =
     let l = c .before .before .before .loop in
-    record {
-      one = l .inv .0;
+    lowest-is _
+    (record {
+      least = l .inv .0;
       most = l .inv .1;
       kept = l .inv .2;
       broken = λ h. sym (c .before .obeys .ensures) ∙ not-true _ (c .if1 .taken);
-    }
+    })
 
 add-rule : tie.Need-add-rule Inv-loop μ-loop
 add-rule c = omega (arith, c .before .before .loop-test .taken)
@@ -56,12 +58,13 @@ loop-again c =
 returns-2 : tie.Need-returns-2 Inv-loop μ-loop
 returns-2 c =
     let l = c .before .loop in
-    record {
-      one = l .inv .0;
+    lowest-is _
+    (record {
+      least = l .inv .0;
       most = l .inv .1;
       kept = l .inv .2;
       broken = λ h. absurd (omega (arith, h, c .loop-test .left));
-    }
+    })
 
 pub lowest-here-spec : {M : Type 1} → statement M
 lowest-here-spec =

@@ -10,8 +10,8 @@ use lib.ListN.{length}
 use Rattle.memory.specs.Processor.{gpu}
 use Rattle.rules.specs.declared.Item.{Item}
 use Rattle.rules.specs.declared.Item.the-variants.{Unbuilt}
-use Rattle.rules.specs.Reading.{shapeOf, shapeAt, bytesOf}
-use Rattle.rules.specs.Check.{before, leads, isStart, isTarget}
+use Rattle.rules.specs.Reading.{shapeOf, shapeAt, bytesOf, before}
+use Rattle.rules.specs.Check.{leads, isStart, isTarget}
 use Rattle.reading.specs.Marks.{Near, markAt}
 use Rattle.reading.proofs.Offsets.{item-at}
 use Rattle.reading.proofs.Marking.{Marked, marked-first, marked-on, marked-carry, marked-past, mark-at, length-mark}

@@ -2,7 +2,8 @@
 -- Assumes nothing.
 use borrow.Author.Needs.{needs}
 use mathlib.Core.Path.{_≡_, refl}
-use Rattle.state.specs.State.{waitingOf, targetOf, pendingOf}
+use Rattle.state.specs.Live.{pendingOf}
+use Rattle.state.specs.State.{waitingOf, targetOf}
 use Rattle.state.specs.declared.Pending.{Pending}
 use Rattle.state.specs.declared.Pending.the-variants.{None, At}
 use Rattle.state.proofs.Core.live.Statement.{statement}

@@ -1,0 +1,19 @@
+-- `inner` meets its contract.
+-- Assumes nothing.
+use borrow.Author.Needs.{needs}
+use Rattle.machine.proofs.State.inner.Statement.{statement}
+use Rattle.machine.proofs.State.inner.Tie as tie
+
+returns : tie.Need-returns
+returns c = simp (c .bit5 .ensures, c .before .bit4 .ensures, c .before .before .bit3 .ensures, c .before .before .before .bit2 .ensures, c .before .before .before .before .bit .ensures)
+
+pub inner-spec : {M : Type 1} → statement M
+inner-spec =
+    tie.close
+    (tie.spec
+    (λ c κs. search needs)
+    (λ c κs. search needs)
+    (λ c κs. search needs)
+    (λ c κs. search needs)
+    (λ c κs. search needs)
+    returns)
