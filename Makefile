@@ -7,7 +7,7 @@ TABLE = docs/vectors/base.csv
 SOURCES = crates.txt $(shell find crates -name '*.rt' -o -name '*.antt')
 DIFFERENTIAL = $(wildcard tests/differential/*.c) bench/interpreter.c
 
-.PHONY: help run loadcheck explain rows table kiosk test tests programs differential loading bench instructions check
+.PHONY: help run loadcheck explain rows table kiosk test tests programs differential loading bench links instructions check
 
 help: ## list these commands
 	@grep -E '^[a-z]+:.*##' Makefile | sed 's/:.*## /\t/' | expand -t 14
@@ -53,6 +53,9 @@ differential loading: %: target/%
 bench: target/bench target/checkbench ## time a run beside a plain C interpreter, and the loading check: about a minute
 	@target/bench
 	@target/checkbench
+
+links: $(ARCHIVE) ## time a run beside the C interpreter over twelve links of the two: half a minute
+	@bench/links
 
 instructions: target/bench ## count the instructions of a step, with valgrind
 	@bench/instructions
