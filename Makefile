@@ -7,7 +7,7 @@ TABLE = docs/vectors/base.csv
 SOURCES = crates.txt $(shell find crates -name '*.rt' -o -name '*.antt')
 DIFFERENTIAL = $(wildcard tests/differential/*.c) bench/interpreter.c
 
-.PHONY: help run loadcheck explain rows table kiosk test tests programs differential loading bench links instructions check
+.PHONY: help run loadcheck explain rows table kiosk test tests programs pages differential loading bench links instructions check
 
 help: ## list these commands
 	@grep -E '^[a-z]+:.*##' Makefile | sed 's/:.*## /\t/' | expand -t 14
@@ -41,11 +41,13 @@ test: ## the whole gate: proofs, must-fail edits, programs, tests
 	@.ci/run
 
 tests: ## the tests over what is built already
-	@$(MAKE) --no-print-directory -j2 programs differential loading target/kiosk target/libgpu.so
-	@tests/run
+	@$(MAKE) --no-print-directory -j2 programs pages differential loading
 
 programs:
 	@tests/programs
+
+pages: target/kiosk target/libgpu.so
+	@tests/run
 
 differential loading: %: target/%
 	@target/$@
