@@ -68,7 +68,7 @@ static inline uint32_t rotated(uint32_t d, uint32_t places)
     return d >> (places & 31) | d << (-places & 31);
 }
 
-static inline uint32_t held(uint32_t d, int32_t top)
+static inline uint32_t clamp(uint32_t d, int32_t top)
 {
     int32_t value = (int32_t)d;
     value = value > top ? top : value;
@@ -254,10 +254,10 @@ static __attribute__((noinline)) uint64_t run(struct machine *restrict m, uint8_
             break;
         case 32: /* SAT8 */
             SOURCE_MUST_BE_ZERO
-            RESULT(held(d, 255))
+            RESULT(clamp(d, 255))
         case 33: /* SAT16 */
             SOURCE_MUST_BE_ZERO
-            RESULT(held(d, 65535))
+            RESULT(clamp(d, 65535))
         case 34: /* MOVE */
             KEEP(s)
         case 35: /* MOVEQ */
@@ -337,7 +337,7 @@ static __attribute__((noinline)) uint64_t run(struct machine *restrict m, uint8_
             goto store;
         case 62: /* SAT24 */
             SOURCE_MUST_BE_ZERO
-            RESULT(held(d, 16777215))
+            RESULT(clamp(d, 16777215))
         case 39:
         case 40:
         case 42:

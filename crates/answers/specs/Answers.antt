@@ -1,9 +1,9 @@
--- The answers of a run, each with paper 01's number.
+-- How instructions end, and the answers of a run, each with paper 01's number.
 use Prim.Native.Nat.{ℕ}
-use mathlib.Core.Bool.{Bool}
-use lib.Dec.{eqb}
 use Rattle.answers.specs.declared.Fault.{Fault}
 use Rattle.answers.specs.declared.Fault.the-variants.{NotBuilt, BadCounter, Misaligned, Unmapped, JumpPending}
+use Rattle.answers.specs.declared.End.{End}
+use Rattle.answers.specs.declared.End.the-variants as E
 use Rattle.answers.specs.declared.Answer.{Answer}
 use Rattle.answers.specs.declared.Answer.the-variants.{Running, Stopped, Faulted, RamLength, BudgetLimit, BlockRule, BlockLength}
 
@@ -25,7 +25,8 @@ numberOf BudgetLimit = 32
 numberOf BlockRule = 34
 numberOf BlockLength = 35
 
--- Whether the number is 0. Of one instruction this says that it was completed: "A fault is not counted as a step", nor is a step of a
--- stopped machine. In the loop of a run it says too that the machine still runs.
-abbrev pub completedOf : Answer → Bool
-completedOf answer = eqb (numberOf answer) 0
+-- What a run answers whose instructions ended so: "A stop on the last budgeted step gives 1".
+abbrev pub answerOf : End → Answer
+answerOf E.Completed = Running
+answerOf E.Stopped = Stopped
+answerOf (E.Faulted f) = Faulted f

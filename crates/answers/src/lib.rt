@@ -1,6 +1,6 @@
-// How a run ends, and how a step is refused: the numbers of paper 01 are those of the definition.
+// How an instruction ends, how a run ends, and how a call is refused: the numbers of paper 01 are those of the definition.
 ghost use mathlib.Core.Path.{_≡_};
-ghost use Rattle.answers.specs.Answers.{faultOf, numberOf, completedOf};
+ghost use Rattle.answers.specs.Answers.{faultOf, numberOf, answerOf};
 
 // Why an instruction was not completed.
 pub enum Fault {
@@ -11,6 +11,15 @@ pub enum Fault {
     JumpPending,
 }
 
+// How an instruction ended, and so how instructions one after another did: completed; completed, and the machine stopped; or not
+// completed.
+pub enum End {
+    Completed,
+    Stopped,
+    Faulted(Fault),
+}
+
+// What a run answers.
 pub enum Answer {
     Running,
     Stopped,
@@ -35,6 +44,19 @@ impl Fault {
     }
 }
 
+impl End {
+    // The answer of a run whose instructions ended so.
+    pub fn answer(self) -> Answer
+        ensures { λ r. ⌜ r ≡ answerOf self ⌝ }
+    {
+        match self {
+            End::Completed => Answer::Running,
+            End::Stopped => Answer::Stopped,
+            End::Faulted(f) => Answer::Faulted(f),
+        }
+    }
+}
+
 impl Answer {
     // Paper 01's number.
     pub fn number(self) -> u32
@@ -49,13 +71,5 @@ impl Answer {
             Answer::BlockRule => 34,
             Answer::BlockLength => 35,
         }
-    }
-
-    // Whether the number is 0. In the loop of a run this says that an instruction was completed and that the machine still runs:
-    // one that stopped the machine was completed too, and answers Stopped there.
-    pub fn completed(self) -> bool
-        ensures { λ r. ⌜ r ≡ completedOf self ⌝ }
-    {
-        self.number() == 0
     }
 }

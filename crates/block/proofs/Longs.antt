@@ -1,76 +1,76 @@
--- Longs in a list of bytes: read after written, and written back as read.
+-- Lists of longs in a list of bytes: stored and read, and stored where they were read.
 -- Assumes nothing.
-use Prim.Native.Nat.{ℕ, zero, suc, _+_, _*_, _/_, _%_, _^_, _<_, _≤_}
-use mathlib.Core.Path.{_≡_, refl, sym, ap, _∙_}
+use Prim.Native.Nat.{ℕ, zero, suc, _+_, _*_, _^_, _<_, _≤_}
+use mathlib.Core.Path.{_≡_, refl, ap, _∙_}
 use mathlib.Core.List.{List, [], _∷_, _++_}
-use mathlib.Core.Bool.{Bool, true, false}
 use native.Mathlib.Omega.{arith}
-use native.Mathlib.Nat.{div-add-mod', mul-comm, add-comm}
-use lib.Pow.{shr-shr}
-use borrow.Author.Tests.{ltb-true, ltb-false}
-use lib.Dec.{ltb}
-use lib.ListN.{length, getD, length-append, List·getD-append}
-use lib.Seq.{set-getD, getD-append-seam}
+use lib.ListN.{length, getD, take}
+use lib.Seq.{take-suc, length-take-le}
 use Rattle.memory.specs.Memory.{longAt, putLong}
+use Rattle.core.specs.Types.{IsBytes}
 use Rattle.block.specs.Block.{longs, putLongs}
+use Rattle.block.proofs.Stored.{put-back, put-length, put-same, put-below}
 
--- every element is a byte
-abbrev pub Bytes : List ℕ → Type 0
-Bytes l = (i : ℕ) → getD l i 0 < 256
+-- numbers of 32 bits
+pub data Words : List ℕ → Type 0 where
+  none : Words []
+  one : {v : ℕ} {vs : List ℕ} → v < 2 ^ 32 → Words vs → Words (v ∷ vs)
 
--- a number is its low digits and its high ones
-pub digits : (k j s : ℕ) → s / 2 ^ k ≡ s / 2 ^ k % 2 ^ j + 2 ^ j * (s / 2 ^ (k + j))
-digits k j s =
-    sym (div-add-mod' (s / 2 ^ k) (2 ^ j)) ∙ rw (shr-shr s k j, mul-comm (s / 2 ^ (k + j)) (2 ^ j), add-comm (2 ^ j * (s / 2 ^ (k + j))) (s / 2 ^ k % 2 ^ j))
+pub all-words : (vs : List ℕ) → ((i : ℕ) → getD vs i 0 < 2 ^ 32) → Words vs
+all-words [] h = none
+all-words (v ∷ vs) h = one (h 0) (all-words vs (λ i. h (suc i)))
 
--- the four bytes of four bytes put together
-module _ (a b c d : ℕ) (ha : a < 256) (hb : b < 256) (hc : c < 256) (hd : d < 256) where
-  first : (a * 2 ^ 24 + b * 2 ^ 16 + c * 256 + d) / 2 ^ 24 % 256 ≡ a
-  first = omega arith
+pub words-append : {us vs : List ℕ} → Words us → Words vs → Words (us ++ vs)
+words-append none w = w
+words-append (one h u) w = one h (words-append u w)
 
-  second : (a * 2 ^ 24 + b * 2 ^ 16 + c * 256 + d) / 2 ^ 16 % 256 ≡ b
-  second = omega arith
-
-  third : (a * 2 ^ 24 + b * 2 ^ 16 + c * 256 + d) / 256 % 256 ≡ c
-  third = omega arith
-
-  fourth : (a * 2 ^ 24 + b * 2 ^ 16 + c * 256 + d) % 256 ≡ d
-  fourth = omega arith
-
--- a long written where it was read
-pub put-back : (l : List ℕ) (i : ℕ) → Bytes l → putLong l i (longAt l i) ≡ l
-put-back l i h =
-    let a = getD l i 0 in
-    let b = getD l (i + 1) 0 in
-    let c = getD l (i + 2) 0 in
-    let d = getD l (i + 3) 0 in
-    rw (first a b c d (h i) (h (i + 1)) (h (i + 2)) (h (i + 3)), second a b c d (h i) (h (i + 1)) (h (i + 2)) (h (i + 3)), third a b c d (h i) (h (i + 1)) (h (i + 2)) (h (i + 3)), fourth a b c d (h i) (h (i + 1)) (h (i + 2)) (h (i + 3)), set-getD l i 0, set-getD l (i + 1) 0, set-getD l (i + 2) 0, set-getD l (i + 3) 0)
-
--- the first m longs of a block
-pub longs-length : (block : List ℕ) (at m : ℕ) → length (longs block at m) ≡ m
+pub longs-length : (l : List ℕ) (at m : ℕ) → length (longs l at m) ≡ m
 unfolding longs
-longs-length block at zero = refl
-longs-length block at (suc m) = simp (length-append, longs-length block at m) (omega arith)
+longs-length l at zero = refl
+longs-length l at (suc m) = ap suc (longs-length l (at + 4) m)
 
-pub longs-at : (block : List ℕ) (at m j : ℕ) → j < m → getD (longs block at m) j 0 ≡ longAt block (at + 4 * j)
+-- one long more is read
+pub longs-more : (l : List ℕ) (at m : ℕ) → longs l at (suc m) ≡ longs l at m ++ (longAt l (at + 4 * m) ∷ [])
 unfolding longs
-longs-at block at zero j h = absurd (omega arith)
-longs-at block at (suc m) j h = go (longs-at block at m j) (ltb j m) refl
-  where
-    go : (j < m → getD (longs block at m) j 0 ≡ longAt block (at + 4 * j)) → (t : Bool) → ltb j m ≡ t → getD (longs block at m ++ (longAt block (at + 4 * m) ∷ [])) j 0 ≡ longAt block (at + 4 * j)
-    go earlier true e =
-        let below : j < m = ltb-true j m e in
-        List·getD-append (longs block at m) _ 0 j (omega (arith, longs-length block at m)) ∙ earlier below
-    go earlier false e =
-        let last : j ≡ m = omega (arith, ltb-false j m e) in
-        let seam : j ≡ length (longs block at m) = last ∙ sym (longs-length block at m) in
-        ap (λ k. getD (longs block at m ++ (longAt block (at + 4 * m) ∷ [])) k 0) seam
-        ∙ getD-append-seam (longs block at m) _ [] 0
-        ∙ ap (λ k. longAt block (at + 4 * k)) (sym last)
+longs-more l at zero = ap (λ i. longAt l i ∷ []) (omega arith)
+longs-more l at (suc m) =
+    ap (λ t. longAt l at ∷ t) (longs-more l (at + 4) m ∙ ap (λ i. longs l (at + 4) m ++ (longAt l i ∷ [])) (omega arith))
 
--- a bank written where it was read
-pub bank-back : (block : List ℕ) (at m : ℕ) → m ≤ 32 → Bytes block → putLongs block at (longs block at 32) m ≡ block
+pub puts-length : (l : List ℕ) (at : ℕ) (vs : List ℕ) → length (putLongs l at vs) ≡ length l
 unfolding putLongs
-bank-back block at zero h bytes = refl
-bank-back block at (suc m) h bytes =
-    rw (bank-back block at m (omega arith) bytes, longs-at block at 32 m (omega arith)) (put-back block (at + 4 * m) bytes)
+puts-length l at [] = refl
+puts-length l at (v ∷ vs) = puts-length (putLong l at v) (at + 4) vs ∙ put-length l at v
+
+-- longs behind longs
+pub puts-append : (l : List ℕ) (at : ℕ) (us vs : List ℕ) → putLongs l at (us ++ vs) ≡ putLongs (putLongs l at us) (at + 4 * length us) vs
+unfolding putLongs
+puts-append l at [] vs = ap (λ i. putLongs l i vs) (omega arith)
+puts-append l at (u ∷ us) vs =
+    puts-append (putLong l at u) (at + 4) us vs ∙ ap (λ i. putLongs (putLongs (putLong l at u) (at + 4) us) i vs) (omega arith)
+
+-- one long more is stored
+pub puts-more : (l : List ℕ) (at : ℕ) (vs : List ℕ) (i : ℕ) → i < length vs → putLongs l at (take (suc i) vs) ≡ putLong (putLongs l at (take i vs)) (at + 4 * i) (getD vs i 0)
+unfolding putLongs
+puts-more l at vs i h =
+    rw (take-suc vs i 0 h, puts-append l at (take i vs) (getD vs i 0 ∷ []), length-take-le i vs (omega arith))
+
+puts-below : (l : List ℕ) (at : ℕ) (vs : List ℕ) (j : ℕ) → at + 4 * length vs ≤ length l → j + 4 ≤ at → longAt (putLongs l at vs) j ≡ longAt l j
+unfolding putLongs
+puts-below l at [] j room h = refl
+puts-below l at (v ∷ vs) j room h =
+    puts-below (putLong l at v) (at + 4) vs j (rw (put-length l at v) (omega arith)) (omega arith) ∙ put-below l at v (omega arith) j h
+
+-- longs read where they were stored
+pub longs-puts : (l : List ℕ) (at : ℕ) (vs : List ℕ) → at + 4 * length vs ≤ length l → Words vs → longs (putLongs l at vs) at (length vs) ≡ vs
+unfolding longs putLongs
+longs-puts l at [] room none = refl
+longs-puts l at (v ∷ vs) room (one small rest) =
+    let next : at + 4 + 4 * length vs ≤ length (putLong l at v) = rw (put-length l at v) (omega arith) in
+    rw (puts-below (putLong l at v) (at + 4) vs at next (omega arith), put-same l at v (omega arith) small, longs-puts (putLong l at v) (at + 4) vs next rest)
+
+-- longs stored where they were read
+pub puts-longs : (l : List ℕ) (at m : ℕ) → IsBytes l → putLongs l at (longs l at m) ≡ l
+unfolding longs putLongs
+puts-longs l at zero h = refl
+puts-longs l at (suc m) h =
+    ap (λ t. putLongs t (at + 4) (longs l (at + 4) m)) (put-back l at h) ∙ puts-longs l (at + 4) m h

@@ -3,15 +3,14 @@ use mathlib.Core.Path.{_≡_}
 use mathlib.Core.Bool.{true}
 use mathlib.Core.List.{List}
 use Prim.Native.Nat.{ℕ}
-use Rattle.memory.specs.Memory.{longAt}
 use Rattle.machine.specs.declared.State.{State}
-use Rattle.block.specs.Block.{validOf, stateAt, putState}
+use Rattle.block.specs.Block.{isValid, stateAt, putState}
 
 -- What holds of s, the state read from a block: written back it gives the same block, if the rules let that through.
 pub record Reads (block : List ℕ) (s : State) : Type 0 where
-  pub back : validOf (longAt block 272) (longAt block 260) ≡ true → putState block s ≡ block
+  pub back : isValid block ≡ true → putState block s ≡ block
 
 -- What holds of a block that s was written to: the rules let it through, and the state read from it is s.
 pub record Writes (s : State) (block : List ℕ) : Type 0 where
-  pub valid : validOf (longAt block 272) (longAt block 260) ≡ true
+  pub valid : isValid block ≡ true
   pub back : stateAt block ≡ s

@@ -3,20 +3,37 @@ ghost use mathlib.Core.Path.{_≡_};
 ghost use Prim.Native.Nat.{_+_, _*_, _≤_, _<_};
 ghost use lib.ListN.{length};
 ghost use Rattle.values.specs.Results.{bitOf};
-ghost use Rattle.block.specs.Block.{longs, putLongs, validOf, pendingIn, activityIn, stateAt, activityBit, statusOf, putRest, putState};
+ghost use Rattle.block.specs.Block.{blockLength, pcIndex, longs, putLongs, isValid, pendingIn, activityIn, stateAt, activityBit, statusOf, restOf, putState};
 ghost use Rattle.block.specs.RoundTrip.{Reads, Writes};
+use core::Activity;
+use core::Pending;
+use core::target;
+use core::waiting;
 use machine::State;
 use memory::long_at;
 use memory::put_long;
-use state::Activity;
-use state::Pending;
-use state::target;
-use state::waiting;
 
-// Whether a status and a pending target obey the bit and target rules.
-pub fn is_valid(status: u32, target: u32) -> bool
-    ensures { λ r. ⌜ r ≡ validOf status target ⌝ }
+pub const BLOCK_LENGTH: usize = 4 * 69;
+
+// The byte at which bank 1 starts, and each long behind the banks.
+const BANK1: usize = 4 * 32;
+
+const PC: usize = 4 * 64;
+
+const TARGET: usize = 4 * 65;
+
+const REMAINDER: usize = 4 * 66;
+
+const ACCUMULATOR: usize = 4 * 67;
+
+const STATUS: usize = 4 * 68;
+
+// Whether the status and the pending target obey the bit and target rules.
+pub fn is_valid(block: &[u8]) -> bool
+    requires { ⌜ blockLength ≤ length (now block) ⌝ }
+    ensures { λ r. ⌜ r ≡ isValid (now (block .entry)) ⌝ }
 {
+    let status = long_at(block, STATUS);
     if status / 8 % 2048 != 0 {
         return false;
     }
@@ -29,7 +46,7 @@ pub fn is_valid(status: u32, target: u32) -> bool
     if status / 131072 % 2 == 1 {
         return true;
     }
-    target == 0
+    long_at(block, TARGET) == 0
 }
 
 fn read_bank(block: &[u8], at: usize) -> [u32; 32]
@@ -67,13 +84,13 @@ fn activity(status: u32) -> Activity
 
 // The second promise: a valid block, read and written back, is the same block.
 pub fn read(block: &[u8]) -> State
-    requires { ⌜ 276 ≤ length (now block) ⌝ }
+    requires { ⌜ blockLength ≤ length (now block) ⌝ }
     ensures { λ r. ⌜ r ≡ stateAt (now (block .entry)) ⌝ }
     ensures { λ r. ⌜ Reads (now (block .entry)) r ⌝ }
 {
     let b0 = read_bank(block, 0);
-    let b1 = read_bank(block, 128);
-    let status = long_at(block, 272);
+    let b1 = read_bank(block, BANK1);
+    let status = long_at(block, STATUS);
     let s = State {
         bank0: b0,
         bank1: b1,
@@ -81,11 +98,11 @@ pub fn read(block: &[u8]) -> State
         z: false,
         n: false,
         c: false,
-        pc: long_at(block, 256),
-        pending: pending(status, long_at(block, 260)),
-        remainder: long_at(block, 264),
+        pc: long_at(block, PC),
+        pending: pending(status, long_at(block, TARGET)),
+        remainder: long_at(block, REMAINDER),
         mode: status / 262144 % 2 == 1,
-        accumulator: long_at(block, 268),
+        accumulator: long_at(block, ACCUMULATOR),
         activity: activity(status),
     };
     s.with_z(status % 2 == 1)
@@ -93,13 +110,13 @@ pub fn read(block: &[u8]) -> State
         .with_n(status / 4 % 2 == 1)
 }
 
-fn write_bank(block: &mut [u8], at: usize, b: &[u32; 32])
-    requires { ⌜ at + 128 ≤ length (now block) ⌝ }
-    ensures { λ _. ⌜ now (block .exit) ≡ putLongs (now (block .entry)) at (now (b .entry)) 32 ⌝ }
+fn write_longs(block: &mut [u8], at: usize, l: &[u32])
+    requires { ⌜ at + 4 * length (now l) ≤ length (now block) ⌝ }
+    ensures { λ _. ⌜ now (block .exit) ≡ putLongs (now (block .entry)) at (now (l .entry)) ⌝ }
 {
     let mut i: usize = 0;
-    while i < 32 {
-        put_long(block, at + 4 * i, b[i]);
+    while i < l.len() {
+        put_long(block, at + 4 * i, l[i]);
         i += 1;
     }
 }
@@ -135,26 +152,26 @@ fn status(s: State) -> u32
 }
 
 fn write_rest(block: &mut [u8], s: State)
-    requires { ⌜ 276 ≤ length (now block) ⌝ }
-    ensures { λ _. ⌜ now (block .exit) ≡ putRest (now (block .entry)) s ⌝ }
+    requires { ⌜ blockLength ≤ length (now block) ⌝ }
+    ensures { λ _. ⌜ now (block .exit) ≡ putLongs (now (block .entry)) (4 * pcIndex) (restOf s) ⌝ }
 {
     let p = s.pending;
-    put_long(block, 256, s.pc);
-    put_long(block, 260, target(p));
-    put_long(block, 264, s.remainder);
-    put_long(block, 268, s.accumulator);
-    put_long(block, 272, status(s));
+    put_long(block, PC, s.pc);
+    put_long(block, TARGET, target(p));
+    put_long(block, REMAINDER, s.remainder);
+    put_long(block, ACCUMULATOR, s.accumulator);
+    put_long(block, STATUS, status(s));
 }
 
 // The second promise: a state, written and read back, is the same state.
 pub fn write(block: &mut [u8], s: State)
-    requires { ⌜ 276 ≤ length (now block) ⌝ }
+    requires { ⌜ blockLength ≤ length (now block) ⌝ }
     ensures { λ _. ⌜ now (block .exit) ≡ putState (now (block .entry)) s ⌝ }
     ensures { λ _. ⌜ Writes s (now (block .exit)) ⌝ }
 {
     let b0 = s.bank0;
     let b1 = s.bank1;
-    write_bank(block, 0, &b0);
-    write_bank(block, 128, &b1);
+    write_longs(block, 0, &b0);
+    write_longs(block, BANK1, &b1);
     write_rest(block, s);
 }

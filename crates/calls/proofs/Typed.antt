@@ -1,49 +1,51 @@
 -- What demand 3 assumes of a state is so in every call: a block of bytes holds a state whose numbers have 32 bits.
 -- Assumes nothing.
-use Prim.Native.Nat.{ℕ, zero, suc, _+_, _*_, _/_, _%_, _^_, _≤_, _<_}
-use mathlib.Core.Path.{_≡_, refl, sym, subst}
+use Prim.Native.Nat.{ℕ, zero, suc, _+_, _/_, _^_, _<_}
 use mathlib.Core.Bool.{Bool, true, false, cond}
-use mathlib.Core.List.{List, [], _∷_}
+use mathlib.Core.List.{List}
 use native.Mathlib.Omega.{arith}
-use borrow.Author.Tests.{ltb-true, ltb-false}
-use lib.Dec.{eqb, ltb}
-use lib.ListN.{length, getD}
+use lib.ListN.{getD}
 use Rattle.memory.specs.Memory.{longAt}
-use Rattle.state.specs.declared.Pending.the-variants.{None, At}
-use Rattle.machine.specs.Types.{IsBytes, IsBank, IsTargetWord, IsState}
-use Rattle.block.specs.Block.{longs, stateAt}
-use Rattle.block.proofs.Longs.{longs-length, longs-at}
-
-beyond : (l : List ℕ) (i : ℕ) → length l ≤ i → getD l i 0 ≡ 0
-beyond [] i h = refl
-beyond (x ∷ l) zero h = absurd (omega arith)
-beyond (x ∷ l) (suc i) h = beyond l i (omega arith)
+use Rattle.core.specs.declared.Pending.the-variants.{None, At}
+use Rattle.core.specs.Types.{IsBytes, IsBank, IsPending}
+use Rattle.machine.specs.State.{IsState}
+use Rattle.values.specs.Results.{isOne}
+use Rattle.values.proofs.Bits.{bit-fits}
+use Rattle.block.specs.Block.{blockLongs, pcIndex, targetIndex, remainderIndex, accumulatorIndex, statusIndex, blockLong, longs, stateAt}
+use Rattle.block.proofs.Longs.{longs-length}
 
 module _ (block : List ℕ) (h : IsBytes block) where
   word : (i : ℕ) → longAt block i < 2 ^ 32
   word i = omega (arith, h .bytes i, h .bytes (i + 1), h .bytes (i + 2), h .bytes (i + 3))
 
-  bank : (at : ℕ) → IsBank (longs block at 32)
-  bank at = record { registers = longs-length block at 32; words = λ i. go i (ltb i 32) refl }
-    where
-      go : (i : ℕ) (t : Bool) → ltb i 32 ≡ t → getD (longs block at 32) i 0 < 2 ^ 32
-      go i true e =
-          subst (λ (n : ℕ). n < 2 ^ 32) (sym (longs-at block at 32 i (ltb-true i 32 e))) (word (at + 4 * i))
-      go i false e =
-          subst (λ (n : ℕ). n < 2 ^ 32) (sym (beyond (longs block at 32) i (omega (arith, longs-length block at 32, ltb-false i 32 e)))) (omega arith)
+  words : (at m i : ℕ) → getD (longs block at m) i 0 < 2 ^ 32
+  unfolding longs
+  words at zero i = omega arith
+  words at (suc m) zero = word at
+  words at (suc m) (suc i) = words (at + 4) m i
 
-  target : (t : Bool) (n : ℕ) → n < 2 ^ 32 → IsTargetWord (cond t (At n) None)
+  bank : (at : ℕ) → IsBank (longs block at 32)
+  bank at = record { registers = longs-length block at 32; words = words at 32 }
+
+  target : (t : Bool) (n : ℕ) → n < 2 ^ 32 → IsPending (cond t (At n) None)
   target true n small = small
   target false n small = tt
 
   pub state-typed : IsState (stateAt block)
-  unfolding stateAt
+  unfolding stateAt longs
   state-typed =
+      let s = stateAt block in
       record {
         first-bank = bank 0;
         second-bank = bank 128;
-        pc-word = word 256;
-        target-word = target (eqb (longAt block 272 / 2 ^ 17 % 2) 1) (longAt block 260) (word 260);
-        remainder-word = word 264;
-        accumulator-word = word 268;
+        core-typed =
+            record {
+              bank-bit = bit-fits (s .second);
+              flag-bits = record { z-bit = bit-fits (s .z); n-bit = bit-fits (s .n); c-bit = bit-fits (s .c) };
+              pc-word = words 0 blockLongs pcIndex;
+              pending-word = target (isOne (blockLong block statusIndex / 2 ^ 17)) _ (words 0 blockLongs targetIndex);
+              remainder-word = words 0 blockLongs remainderIndex;
+              mode-bit = bit-fits (s .mode);
+              accumulator-word = words 0 blockLongs accumulatorIndex;
+            };
       }

@@ -4,39 +4,39 @@ use mathlib.Core.Bool.{cond}
 use mathlib.Core.List.{List}
 use lib.Dec.{eqb, ltb}
 use lib.ListN.{length}
-use Rattle.memory.specs.Processor.{gpu}
-use Rattle.memory.specs.Memory.{longAt}
+use Rattle.processor.specs.Processor.{gpu}
 use Rattle.answers.specs.Answers.{numberOf}
 use Rattle.answers.specs.declared.Answer.the-variants.{RamLength, BudgetLimit, BlockRule, BlockLength}
 use Rattle.rules.specs.declared.Verdict.{Verdict}
 use Rattle.rules.specs.Verdicts as verdicts
+use Rattle.core.specs.Machine.{Memory}
 use Rattle.machine.specs.Run.{Result, runOf, budgetLimit}
-use Rattle.block.specs.Block.{blockLength, validOf, stateAt, putState}
+use Rattle.block.specs.Block.{blockLength, isValid, stateAt, putState}
 
--- The reply, and RAM and the block after the call.
+-- The reply, and memory and the block after the call.
 pub record Call : Type 0 where
   pub reply : ℕ
-  pub ram : List ℕ
+  pub memory : Memory
   pub block : List ℕ
 
-abbrev pub called : ℕ → List ℕ → List ℕ → Call
-called reply ram block = record { reply = reply; ram = ram; block = block }
+abbrev pub called : ℕ → Memory → List ℕ → Call
+called reply memory block = record { reply = reply; memory = memory; block = block }
 
 -- "The 64-bit reply is answer + 256 × steps."
 abbrev pub ranOn : List ℕ → Result → Call
 ranOn block r =
-    called (numberOf (r .ran .answer) + 256 * r .ran .steps) (r .ram) (putState block (r .ran .state))
+    called (numberOf (r .ran .answer) + 256 * r .ran .steps) (r .memory) (putState block (r .ran .state))
 
 -- "Order for a run: 31, 35, 34, 32."
-unfoldable pub callOf : List ℕ → List ℕ → ℕ → Call
-callOf ram block budget =
-    cond (eqb (length ram) (gpu .size))
+unfoldable pub callOf : Memory → List ℕ → ℕ → Call
+callOf memory block budget =
+    cond (eqb (length (memory .ram)) (gpu .size))
     (cond (eqb (length block) blockLength)
-    (cond (validOf (longAt block 272) (longAt block 260))
-    (cond (ltb budgetLimit budget) (called (numberOf BudgetLimit) ram block) (ranOn block (runOf gpu ram (stateAt block) budget)))
-    (called (numberOf BlockRule) ram block))
-    (called (numberOf BlockLength) ram block))
-    (called (numberOf RamLength) ram block)
+    (cond (isValid block)
+    (cond (ltb budgetLimit budget) (called (numberOf BudgetLimit) memory block) (ranOn block (runOf gpu memory (stateAt block) budget)))
+    (called (numberOf BlockRule) memory block))
+    (called (numberOf BlockLength) memory block))
+    (called (numberOf RamLength) memory block)
 
 -- The check's reply: answer + 256 × address.
 abbrev pub checkReply : Verdict → ℕ

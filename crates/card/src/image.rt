@@ -1,17 +1,24 @@
 // The card of an image: the run program's whole work.
 ghost use mathlib.Core.Path.{_≡_};
-ghost use Rattle.card.specs.Image.{startState, cardOf, printed, printedOf};
+ghost use Rattle.processor.specs.Processor.{gpu};
+ghost use Rattle.core.specs.Machine.{lent};
+ghost use Rattle.machine.specs.State.{startState};
+ghost use Rattle.card.specs.Image.{cardOf, printed, printedOf};
 use crate::Card;
 use crate::write;
+use core::Activity;
+use core::Pending;
 use machine::Ran;
 use machine::State;
 use machine::run;
-use state::Activity;
-use state::Pending;
+use processor::Gpu;
+
+// The budget of the run program.
+const BUDGET: u64 = 1000000;
 
 // The state in which an image starts.
 fn start() -> State
-    ensures { λ r. ⌜ r ≡ startState ⌝ }
+    ensures { λ r. ⌜ r ≡ startState gpu ⌝ }
 {
     State {
         bank0: [0u32; 32],
@@ -20,7 +27,7 @@ fn start() -> State
         z: false,
         n: false,
         c: false,
-        pc: 0xF03000,
+        pc: Gpu::BASE,
         pending: Pending::None,
         remainder: 0,
         mode: false,
@@ -47,8 +54,8 @@ fn told(r: Ran) -> Card
 
 // Runs an image, which is lent as RAM, and writes its card; the text's length is the result.
 pub fn print(ram: &mut [u8], out: &mut [u8; 128]) -> usize
-    ensures { λ r. ⌜ printed r (now (out .exit)) (now (ram .exit)) ≡ printedOf (now (ram .entry)) (now (out .entry)) ⌝ }
+    ensures { λ r. ⌜ printed r (now (out .exit)) (lent (now (ram .exit))) ≡ printedOf (lent (now (ram .entry))) (now (out .entry)) ⌝ }
 {
-    let r = run(ram, start(), 1000000);
+    let r = run(ram, start(), BUDGET);
     write(told(r), out)
 }

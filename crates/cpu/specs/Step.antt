@@ -1,74 +1,55 @@
--- One instruction: what it answers, and the state and RAM after it.
+-- One instruction of a running machine: what comes of it.
 use Prim.Native.Nat.{ℕ, _/_, _%_}
-use mathlib.Core.Bool.{cond}
 use mathlib.Core.List.{List}
-use lib.Dec.{eqb}
-use lib.ListN.{length, getD, set}
-use Rattle.isa.specs.Words.{decodeOf}
+use lib.ListN.{getD, set}
 use Rattle.values.specs.Results.{flagsOf}
 use Rattle.effect.specs.Effects.{effectIn}
 use Rattle.effect.specs.declared.Effect.{Effect}
 use Rattle.effect.specs.declared.Effect.the-variants as E
 use Rattle.effect.specs.declared.Operands.{Operands}
-use Rattle.memory.specs.Processor.{Processor}
+use Rattle.processor.specs.Processor.{Processor}
 use Rattle.memory.specs.Memory.{fetchOf, placeOf}
 use Rattle.memory.specs.declared.Fetched.{Fetched}
 use Rattle.memory.specs.declared.Fetched.the-variants as F
-use Rattle.state.specs.declared.Core.{Core}
-use Rattle.state.specs.declared.Activity.{Activity}
-use Rattle.state.specs.declared.Activity.the-variants as A
-use Rattle.answers.specs.declared.Answer.the-variants.{Stopped, RamLength}
-use Rattle.state.specs.State.{withFlags, withRemainder, withAccumulator}
-use Rattle.transfers.specs.Transfers.{View, Outcome, outcome, unwritten, stayOf, faultedOf, doneOf, jumpOf, Written, moveImmediateOf, moveCounterOf, loadOf, moveLoadedOf, storeOf}
-
--- Register d of the active bank becomes n, and the rest k moves on.
-abbrev pub writes : List ℕ → View → ℕ → ℕ → Core → Outcome
-writes ram v d n k = outcome (doneOf k) (set (v .active) (d % 32) n) (v .other) ram
-
--- An instruction that writes the active bank alone.
-abbrev pub inActive : Written → View → List ℕ → Outcome
-inActive w v ram = outcome (w .moved) (w .active) (v .other) ram
+use Rattle.core.specs.declared.Core.{Core}
+use Rattle.core.specs.declared.Pending.the-variants.{None}
+use Rattle.core.specs.Core.{movedOf, skippedOf, withFlags, withRemainder, withAccumulator}
+use Rattle.core.specs.Machine.{Machine}
+use Rattle.transfers.specs.Outcome.{faultedOf, doneOf, Outcome, outcomeWith, unwritten, writes}
+use Rattle.transfers.specs.Transfers.{jumpOf, immediateIn, counterIn, loadOf, receives, storeOf}
 
 -- What an effect does to the machine.
-unfoldable pub applyOf : Processor → List ℕ → View → Effect → Outcome
-applyOf P ram v (E.Refused f) = unwritten ram v (faultedOf f (v .core))
-applyOf P ram v E.Nothing = unwritten ram v (doneOf (v .core))
-applyOf P ram v (E.Write d r) = writes ram v d (r .value) (withFlags (v .core) (flagsOf r))
-applyOf P ram v (E.Keep d n) = writes ram v d n (v .core)
-applyOf P ram v (E.Flags f) = unwritten ram v (doneOf (withFlags (v .core) f))
-applyOf P ram v (E.Divide d q) = writes ram v d (q .quotient) (withRemainder (v .core) (q .remainder))
-applyOf P ram v (E.Product r) =
-    unwritten ram v (doneOf (withFlags (withAccumulator (v .core) (r .value)) (flagsOf r)))
-applyOf P ram v (E.Accumulate n) = unwritten ram v (doneOf (withAccumulator (v .core) n))
-applyOf P ram v (E.ToOther d n) = outcome (doneOf (v .core)) (v .active) (set (v .other) (d % 32) n) ram
-applyOf P ram v (E.FromOther s d) = writes ram v d (getD (v .other) (s % 32) 0) (v .core)
-applyOf P ram v (E.Immediate d) =
-    inActive (moveImmediateOf P ram (v .active) (v .core) (v .core .pending) d) v ram
-applyOf P ram v (E.Counter d) = inActive (moveCounterOf (v .active) (v .core) (v .core .pending) d) v ram
-applyOf P ram v (E.Jump condition target) =
-    unwritten ram v (jumpOf (v .core) (v .core .pending) condition target)
-applyOf P ram v (E.Load d address) =
-    inActive (moveLoadedOf (v .active) (v .core) d (loadOf (v .core) ram (placeOf P address))) v ram
-applyOf P ram v (E.Store address n) = storeOf ram v n (placeOf P address)
+unfoldable pub applyOf : Processor → Machine → Effect → Outcome
+applyOf P m (E.Refused f) = unwritten m (faultedOf f (m .core))
+applyOf P m E.Nothing = unwritten m (doneOf (m .core))
+applyOf P m (E.Write d r) = writes m d (r .value) (doneOf (withFlags (m .core) (flagsOf r)))
+applyOf P m (E.Keep d n) = writes m d n (doneOf (m .core))
+applyOf P m (E.Flags f) = unwritten m (doneOf (withFlags (m .core) f))
+applyOf P m (E.Divide d q) = writes m d (q .quotient) (doneOf (withRemainder (m .core) (q .remainder)))
+applyOf P m (E.Product r) = unwritten m (doneOf (withFlags (withAccumulator (m .core) (r .value)) (flagsOf r)))
+applyOf P m (E.Accumulate n) = unwritten m (doneOf (withAccumulator (m .core) n))
+applyOf P m (E.ToOther d n) = outcomeWith (doneOf (m .core)) (m .active) (set (m .other) (d % 32) n) (m .memory)
+applyOf P m (E.FromOther s d) = writes m d (getD (m .other) (s % 32) 0) (doneOf (m .core))
+applyOf P m (E.Immediate d) = receives m (skippedOf (m .core)) d (immediateIn P (m .core) (m .memory) (m .core .pending))
+applyOf P m (E.Counter d) = receives m (movedOf (m .core) None) d (counterIn (m .core) (m .core .pending))
+applyOf P m (E.Jump condition target) = unwritten m (jumpOf (m .core) (m .core .pending) condition target)
+applyOf P m (E.Load d address) = receives m (movedOf (m .core) None) d (loadOf (m .core) (m .memory) (placeOf P address))
+applyOf P m (E.Store address n) = storeOf m n (placeOf P address)
 
--- What the instruction of the word w reads.
-abbrev pub operandsOf : List ℕ → Core → ℕ → Operands
-operandsOf a k w =
-    record { s = getD a (w / 32 % 32) 0; d = getD a (w % 32) 0; pc = k .pc; z = k .flags .z; n = k .flags .n; c = k .flags .c; acc = k .accumulator; mode = k .mode }
+-- What an instruction reads, by its source and destination fields.
+abbrev pub operandsOf : List ℕ → Core → ℕ → ℕ → Operands
+operandsOf a k s d =
+    record { s = getD a s 0; d = getD a d 0; pc = k .pc; z = k .flags .z; n = k .flags .n; c = k .flags .c; acc = k .accumulator; mode = k .mode }
 
-unfoldable pub executeOf : Processor → List ℕ → View → ℕ → Outcome
-executeOf P ram v w = applyOf P ram v (effectIn (decodeOf w) (v .active) (operandsOf (v .active) (v .core) w))
+-- The instruction of the word w.
+unfoldable pub executeOf : Processor → Machine → ℕ → Outcome
+executeOf P m w = applyOf P m (effectIn (P .decode w) (m .active) (operandsOf (m .active) (m .core) (w / 32 % 32) (w % 32)))
 
 -- "Fetching gives the word or the refusal, and later work takes only a word."
-abbrev pub fetchedOf : Processor → List ℕ → View → Fetched → Outcome
-fetchedOf P ram v (F.Word w) = executeOf P ram v w
-fetchedOf P ram v (F.Refused f) = unwritten ram v (faultedOf f (v .core))
+abbrev pub fetchedOf : Processor → Machine → Fetched → Outcome
+fetchedOf P m (F.Word w) = executeOf P m w
+fetchedOf P m (F.Refused f) = unwritten m (faultedOf f (m .core))
 
-abbrev pub activeOf : Processor → List ℕ → View → Activity → Outcome
-activeOf P ram v A.Running = fetchedOf P ram v (fetchOf P ram (v .core .pc))
-activeOf P ram v A.Stopped = unwritten ram v (stayOf Stopped (v .core))
-
--- "For a step: 31, stopped, 12 for the first word, 11, 15, 12 for the rest, 13, 14."
-unfoldable pub advanceOf : Processor → List ℕ → View → Outcome
-advanceOf P ram v =
-    cond (eqb (length ram) (P .size)) (activeOf P ram v (v .core .activity)) (unwritten ram v (stayOf RamLength (v .core)))
+-- "For a step: 31, stopped, 12 for the first word, 11, 15, 12 for the rest, 13, 14": 31 and stopped are the run's.
+unfoldable pub advanceOf : Processor → Machine → Outcome
+advanceOf P m = fetchedOf P m (fetchOf P (m .memory .ram) (m .core .pc))

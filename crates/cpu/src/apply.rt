@@ -1,27 +1,29 @@
-// An effect applied: the registers, RAM and the rest of the state after it, and the counter moved on.
+// An effect applied: the registers, RAM and the core after it, and the counter moved on.
 ghost use mathlib.Core.Path.{_≡_};
 ghost use lib.ListN.{length};
-ghost use Rattle.memory.specs.Processor.{gpu};
-ghost use Rattle.transfers.specs.Loop.{changeOf, running};
-ghost use Rattle.transfers.specs.Transfers.{outcome, viewFrom};
+ghost use Rattle.processor.specs.Processor.{gpu};
+ghost use Rattle.core.specs.Machine.{machineWith, lent};
+ghost use Rattle.transfers.specs.Outcome.{outcomeWith};
 ghost use Rattle.cpu.specs.Step.{applyOf};
+use core::Core;
 use effect::Effect;
 use registers::get;
 use registers::put;
-use state::live::Live;
 use transfers::Moved;
+use transfers::counter;
 use transfers::done;
 use transfers::fault;
+use transfers::immediate;
 use transfers::jump;
-use transfers::move_counter;
-use transfers::move_immediate;
-use transfers::move_loaded;
+use transfers::load;
+use transfers::receive;
+use transfers::receive_next;
 use transfers::store;
 
-// The effect's changes to the active bank, the other bank, RAM and the rest.
-pub fn apply(a: &mut [u32; 32], o: &mut [u32; 32], k: Live, ram: &mut [u8], e: Effect) -> Moved
-    requires { ⌜ length (now ram) ≡ 4096 ⌝ }
-    ensures { λ r. ⌜ outcome (changeOf r) (now (a .exit)) (now (o .exit)) (now (ram .exit)) ≡ applyOf gpu (now (ram .entry)) (viewFrom (now (a .entry)) (now (o .entry)) (running k)) e ⌝ }
+// The effect's changes to the active bank, the other bank, RAM and the core.
+pub fn apply(a: &mut [u32; 32], o: &mut [u32; 32], k: Core, ram: &mut [u8], e: Effect) -> Moved
+    requires { ⌜ length (now ram) ≡ gpu .size ⌝ }
+    ensures { λ r. ⌜ outcomeWith r (now (a .exit)) (now (o .exit)) (lent (now (ram .exit))) ≡ applyOf gpu (machineWith (now (a .entry)) (now (o .entry)) k (lent (now (ram .entry)))) e ⌝ }
 {
     match e {
         Effect::Refused(f) => fault(f, k),
@@ -49,10 +51,10 @@ pub fn apply(a: &mut [u32; 32], o: &mut [u32; 32], k: Live, ram: &mut [u8], e: E
             put(a, d, get(o, s));
             done(k)
         }
-        Effect::Immediate(d) => move_immediate(a, k, ram, d),
-        Effect::Counter(d) => move_counter(a, k, d),
+        Effect::Immediate(d) => receive_next(a, k, k.skipped(), d, immediate(k, ram)),
+        Effect::Counter(d) => receive(a, k, d, counter(k)),
         Effect::Jump(condition, target) => jump(k, condition, target),
-        Effect::Load(d, address) => move_loaded(a, k, ram, d, address),
+        Effect::Load(d, address) => { receive(a, k, d, load(k, ram, address)) }
         Effect::Store(address, v) => store(a, o, k, ram, address, v),
     }
 }

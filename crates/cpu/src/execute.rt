@@ -1,30 +1,31 @@
 // One instruction: fetched, decoded to its effect, and applied.
 ghost use mathlib.Core.Path.{_≡_};
+ghost use Prim.Native.Nat.{_<_};
 ghost use lib.ListN.{length};
-ghost use Rattle.memory.specs.Processor.{gpu};
-ghost use Rattle.transfers.specs.Loop.{changeOf, running};
-ghost use Rattle.transfers.specs.Transfers.{outcome, viewFrom};
+ghost use Rattle.processor.specs.Processor.{gpu};
+ghost use Rattle.core.specs.Machine.{machineWith, lent};
+ghost use Rattle.transfers.specs.Outcome.{outcomeWith};
 ghost use Rattle.cpu.specs.Step.{operandsOf, executeOf, advanceOf};
 use crate::apply::apply;
 use answers::Fault;
+use core::Core;
 use effect::Operands;
 use effect::effect_at;
 use memory::Fetched;
 use memory::fetch;
 use registers::get;
-use state::live::Live;
 use transfers::Moved;
 use transfers::fault;
 
-// What the instruction of a word reads.
-fn operands_of(a: &[u32; 32], k: Live, w: u16) -> Operands
-    ensures { λ r. ⌜ r ≡ operandsOf (now (a .entry)) (running k) w ⌝ }
+// What an instruction reads, by its source and destination fields.
+fn operands_of(a: &[u32; 32], k: Core, s: u32, d: u32) -> Operands
+    requires { ⌜ (s < 32) × (d < 32) ⌝ }
+    ensures { λ r. ⌜ r ≡ operandsOf (now (a .entry)) k s d ⌝ }
 {
     let f = k.flags;
-    let n = w as u32;
     Operands {
-        s: get(a, n / 32),
-        d: get(a, n),
+        s: get(a, s),
+        d: get(a, d),
         pc: k.pc,
         z: f.z,
         n: f.n,
@@ -35,20 +36,23 @@ fn operands_of(a: &[u32; 32], k: Live, w: u16) -> Operands
 }
 
 // The instruction of a word that was fetched.
-fn execute(a: &mut [u32; 32], o: &mut [u32; 32], k: Live, ram: &mut [u8], w: u16) -> Moved
-    requires { ⌜ length (now ram) ≡ 4096 ⌝ }
-    ensures { λ r. ⌜ outcome (changeOf r) (now (a .exit)) (now (o .exit)) (now (ram .exit)) ≡ executeOf gpu (now (ram .entry)) (viewFrom (now (a .entry)) (now (o .entry)) (running k)) w ⌝ }
+fn execute(a: &mut [u32; 32], o: &mut [u32; 32], k: Core, ram: &mut [u8], w: u16) -> Moved
+    requires { ⌜ length (now ram) ≡ gpu .size ⌝ }
+    ensures { λ r. ⌜ outcomeWith r (now (a .exit)) (now (o .exit)) (lent (now (ram .exit))) ≡ executeOf gpu (machineWith (now (a .entry)) (now (o .entry)) k (lent (now (ram .entry)))) w ⌝ }
 {
-    let x = operands_of(a, k, w);
+    // The fields are taken apart once, for the operands and for the effect.
     let n = w as u32;
-    let e = effect_at(n / 1024, n / 32 % 32, n % 32, a, x);
+    let s = n / 32 % 32;
+    let d = n % 32;
+    let x = operands_of(a, k, s, d);
+    let e = effect_at(n / 1024, s, d, a, x);
     apply(a, o, k, ram, e)
 }
 
-// One whole instruction of a running machine: the active bank and the other one, the rest of the state, and RAM after it.
-pub fn advance(a: &mut [u32; 32], o: &mut [u32; 32], k: Live, ram: &mut [u8]) -> Moved
-    requires { ⌜ length (now ram) ≡ 4096 ⌝ }
-    ensures { λ r. ⌜ outcome (changeOf r) (now (a .exit)) (now (o .exit)) (now (ram .exit)) ≡ advanceOf gpu (now (ram .entry)) (viewFrom (now (a .entry)) (now (o .entry)) (running k)) ⌝ }
+// One whole instruction of a running machine: the active bank and the other one, the core, and RAM after it.
+pub fn advance(a: &mut [u32; 32], o: &mut [u32; 32], k: Core, ram: &mut [u8]) -> Moved
+    requires { ⌜ length (now ram) ≡ gpu .size ⌝ }
+    ensures { λ r. ⌜ outcomeWith r (now (a .exit)) (now (o .exit)) (lent (now (ram .exit))) ≡ advanceOf gpu (machineWith (now (a .entry)) (now (o .entry)) k (lent (now (ram .entry)))) ⌝ }
 {
     let Fetched::Word(w) = fetch(ram, k.pc) else {
         return fault(Fault::BadCounter, k);

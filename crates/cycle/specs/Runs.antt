@@ -1,34 +1,33 @@
 -- Instructions one after another, each from what the one before left, truly counted.
 use Prim.Native.Nat.{ℕ, zero, suc, _+_}
-use mathlib.Core.Bool.{cond}
 use mathlib.Core.List.{List}
-use Rattle.memory.specs.Processor.{Processor}
-use Rattle.state.specs.declared.Activity.{Activity}
-use Rattle.state.specs.declared.Activity.the-variants as A
-use Rattle.answers.specs.declared.Answer.{Answer}
-use Rattle.answers.specs.declared.Answer.the-variants.{Running, Stopped}
-use Rattle.answers.specs.Answers.{completedOf}
-use Rattle.transfers.specs.Transfers.{View, Outcome}
+use Rattle.processor.specs.Processor.{Processor}
+use Rattle.answers.specs.declared.End.{End}
+use Rattle.answers.specs.declared.End.the-variants.{Completed, Stopped, Faulted}
+use Rattle.core.specs.Machine.{Memory, Machine, machineWith}
 use Rattle.cpu.specs.Step.{advanceOf}
+use Rattle.cycle.specs.declared.Gone.{Gone}
 
--- The answer, the steps counted, and the state and RAM that they left.
+-- How they ended, how many were completed, and the machine that they left.
 pub record Runs : Type 0 where
-  pub answer : Answer
+  pub end : End
   pub steps : ℕ
-  pub view : View
-  pub ram : List ℕ
+  pub machine : Machine
 
--- "A stop on the last budgeted step gives 1 […]. Budget 0 gives 0 or, when stopped, 1."
-abbrev pub restOf : Activity → Answer
-restOf A.Running = Running
-restOf A.Stopped = Stopped
+-- What the loop hands back, with the banks and memory that it was lent.
+abbrev pub runsWith : Gone → List ℕ → List ℕ → Memory → Runs
+runsWith r active other memory =
+    record { end = r .end; steps = r .steps; machine = machineWith active other (r .core) memory }
 
--- A run that is cut short after n steps.
-abbrev pub cut : ℕ → Outcome → Runs
-cut n o = record { answer = o .answer; steps = n; view = o .view; ram = o .ram }
+-- An instruction that ended so and left the machine m, after n steps: the rest follows a completed one, one that stops the machine is
+-- a step, and "A fault is not counted as a step".
+abbrev pub followedBy : End → ℕ → Machine → Runs → Runs
+followedBy Completed n m rest = rest
+followedBy Stopped n m rest = record { end = Stopped; steps = n + 1; machine = m }
+followedBy (Faulted f) n m rest = record { end = Faulted f; steps = n; machine = m }
 
 -- With a budget left and n steps counted.
-unfoldable pub runsOf : Processor → ℕ → ℕ → List ℕ → View → Runs
-runsOf P zero n ram v = record { answer = restOf (v .core .activity); steps = n; view = v; ram = ram }
-runsOf P (suc b) n ram v =
-    cond (completedOf (advanceOf P ram v .answer)) (runsOf P b (n + 1) (advanceOf P ram v .ram) (advanceOf P ram v .view)) (cut n (advanceOf P ram v))
+unfoldable pub runsOf : Processor → ℕ → ℕ → Machine → Runs
+runsOf P zero n m = record { end = Completed; steps = n; machine = m }
+runsOf P (suc b) n m =
+    followedBy (advanceOf P m .end) n (advanceOf P m .machine) (runsOf P b (n + 1) (advanceOf P m .machine))

@@ -1,83 +1,75 @@
 // Instructions one after another up to a budget, on registers and RAM that are lent.
 ghost use mathlib.Core.Path.{_≡_};
-ghost use Rattle.memory.specs.Processor.{gpu};
-ghost use Prim.Native.Nat.{_+_, _^_, _<_};
 ghost use lib.ListN.{length};
-ghost use Rattle.transfers.specs.Loop.{running};
-ghost use Rattle.transfers.specs.Transfers.{viewFrom};
-ghost use Rattle.cycle.specs.Loop.{leftOf, goneWith};
-ghost use Rattle.cycle.specs.Runs.{runsOf};
-use answers::Answer;
+ghost use Rattle.processor.specs.Processor.{gpu};
+ghost use Rattle.core.specs.Machine.{activeIn, otherIn, machineWith, lent};
+ghost use Rattle.cycle.specs.Runs.{runsWith, runsOf};
+use answers::End;
+use core::Core;
 use cpu::advance;
-use state::Activity;
-use state::Core;
-use state::live::Live;
+use registers::settle;
 
-// How a run ends: the registers stand in the two banks that were lent.
+// How instructions ended, how many were completed, and the core after them: the registers stand in the two banks that were lent.
 pub struct Gone {
-    pub answer: Answer,
+    pub end: End,
     pub steps: u32,
     pub core: Core,
 }
 
-// The end of a run at an instruction that stopped the machine, or that was not completed.
-fn left(answer: Answer, k: Live, n: u32) -> Gone
-    requires { ⌜ n + 1 < 2 ^ 32 ⌝ }
-    ensures { λ r. ⌜ r ≡ leftOf answer k n ⌝ }
-{
-    if answer.number() == 1 {
-        Gone {
-            answer: Answer::Stopped,
-            steps: n + 1,
-            core: k.core(Activity::Stopped),
-        }
-    } else {
-        Gone {
-            answer: answer,
-            steps: n,
-            core: k.core(Activity::Running),
-        }
-    }
-}
-
 // Instructions one after another, from the active bank and the other one; these change places only by a store to the flag
 // register. The machine runs, and the loop is left when it stops.
-fn cycle(a: &mut [u32; 32], o: &mut [u32; 32], from: Live, ram: &mut [u8], budget: u32) -> Gone
-    requires { ⌜ length (now ram) ≡ 4096 ⌝ }
-    ensures { λ r. ⌜ goneWith r (now (a .exit)) (now (o .exit)) (now (ram .exit)) ≡ runsOf gpu budget 0 (now (ram .entry)) (viewFrom (now (a .entry)) (now (o .entry)) (running from)) ⌝ }
+fn cycle(a: &mut [u32; 32], o: &mut [u32; 32], from: Core, ram: &mut [u8], budget: u32) -> Gone
+    requires { ⌜ length (now ram) ≡ gpu .size ⌝ }
+    ensures { λ r. ⌜ runsWith r (now (a .exit)) (now (o .exit)) (lent (now (ram .exit))) ≡ runsOf gpu budget 0 (machineWith (now (a .entry)) (now (o .entry)) from (lent (now (ram .entry)))) ⌝ }
 {
     let mut k = from;
     // What is left of the budget: one number counts the steps and ends the loop.
     let mut rest = budget;
     while rest != 0 {
         let m = advance(a, o, k, ram);
-        let after = m.live;
-        let answer = m.answer;
-        if !answer.completed() {
-            return left(answer, after, budget - rest);
+        let after = m.core;
+        let end = m.end;
+        match end {
+            End::Completed => {}
+            End::Stopped => {
+                return Gone {
+                    end: end,
+                    steps: budget - rest + 1,
+                    core: after,
+                };
+            }
+            End::Faulted(_) => {
+                return Gone {
+                    end: end,
+                    steps: budget - rest,
+                    core: after,
+                };
+            }
         }
         k = after;
         rest -= 1;
     }
     Gone {
-        answer: Answer::Running,
+        end: End::Completed,
         steps: budget,
-        core: k.core(Activity::Running),
+        core: k,
     }
 }
 
-// Instructions one after another, up to a budget: none where the machine has stopped.
-pub fn go(a: &mut [u32; 32], o: &mut [u32; 32], from: Core, ram: &mut [u8], budget: u32) -> Gone
-    requires { ⌜ length (now ram) ≡ 4096 ⌝ }
-    ensures { λ r. ⌜ goneWith r (now (a .exit)) (now (o .exit)) (now (ram .exit)) ≡ runsOf gpu budget 0 (now (ram .entry)) (viewFrom (now (a .entry)) (now (o .entry)) from) ⌝ }
+// The same on the two banks in their order: the active one goes first, and after it they are in their order again.
+pub fn from_banks(
+    bank0: &mut [u32; 32],
+    bank1: &mut [u32; 32],
+    from: Core,
+    ram: &mut [u8],
+    budget: u32,
+) -> Gone
+    requires { ⌜ length (now ram) ≡ gpu .size ⌝ }
+    ensures { λ r. ⌜ runsWith r (activeIn (now (bank0 .exit)) (now (bank1 .exit)) (r .core)) (otherIn (now (bank0 .exit)) (now (bank1 .exit)) (r .core)) (lent (now (ram .exit))) ≡ runsOf gpu budget 0 (machineWith (activeIn (now (bank0 .entry)) (now (bank1 .entry)) from) (otherIn (now (bank0 .entry)) (now (bank1 .entry)) from) from (lent (now (ram .entry)))) ⌝ }
 {
-    let activity = from.activity;
-    match activity {
-        Activity::Stopped => Gone {
-            answer: Answer::Stopped,
-            steps: 0,
-            core: from,
-        },
-        Activity::Running => cycle(a, o, from.live(), ram, budget),
-    }
+    settle(bank0, bank1, from.bank % 2 != 1);
+    let g = cycle(bank0, bank1, from, ram, budget);
+    let after = g.core;
+    settle(bank0, bank1, after.bank % 2 != 1);
+    g
 }

@@ -7,16 +7,18 @@ use native.Mathlib.Omega.{arith}
 use lib.Dec.{eqb}
 use Rattle.isa.specs.declared.Instr.{Instr}
 use Rattle.isa.specs.declared.Instr.the-variants.{Load, Store, Jump, Nop}
-use Rattle.isa.specs.declared.Decoded.the-variants as D
 use Rattle.field.specs.Fields.{quickOf, signedFieldOf}
 use Rattle.isa.specs.Table.{formOf, instructions}
-use Rattle.isa.specs.Words.{noInstruction, opcodeIn, among, instructionAt, built, decodedAt, decodeOf}
+use Rattle.isa.specs.Words.{opcodeIn, among}
+use Rattle.values.specs.Results.{IsFlags}
 use Rattle.values.specs.Signed.{unsignedOf}
+use Rattle.values.proofs.Bits.{bit-fits}
+use Rattle.shifter.specs.Shift.{rightOf, rightSignedOf}
 use Rattle.effect.specs.declared.Operands.{Operands}
 use Rattle.effect.specs.declared.Effect.{Effect}
 use Rattle.effect.specs.declared.Effect.the-variants as E
-use Rattle.effect.specs.Effects.{effectOf, effectIn}
-use Rattle.effect.proofs.Widths.{Fit, FlagsFit, bit-fits, flags-fit, abs-fit, left-fit, right-fit, right-signed-fit, rotate-fit, sh-fit, sha-fit, add-fit, addc-fit, sub-fit, subc-fit, div-fits, and-fit, or-fit, xor-fit, not-fit, bset-fit, bclr-fit, mult-fit, imult-fit, saturated-fit, mtoi-fit, normi-fit}
+use Rattle.effect.specs.Effects.{effectOf}
+use Rattle.effect.proofs.Widths.{Fit, flags-fit, abs-fit, left-fit, right-fit, right-signed-fit, rotate-fit, shift-fit, add-fit, addc-fit, sub-fit, subc-fit, div-fits, and-fit, or-fit, xor-fit, not-fit, bset-fit, bclr-fit, mult-fit, imult-fit, saturated-fit, mtoi-fit, normi-fit}
 
 -- operands of 32 bits, and bits as flags
 pub record OperandsFit (x : Operands) : Type 0 where
@@ -31,7 +33,7 @@ EffectFits (E.Refused f) = Unit {0}
 EffectFits E.Nothing = Unit {0}
 EffectFits (E.Write d r) = Fit r
 EffectFits (E.Keep d n) = n < 2 ^ 32
-EffectFits (E.Flags f) = FlagsFit f
+EffectFits (E.Flags f) = IsFlags f
 EffectFits (E.Divide d q) = (q .quotient < 2 ^ 32) × (q .remainder < 2 ^ 32)
 EffectFits (E.Product r) = Fit r
 EffectFits (E.Accumulate n) = n < 2 ^ 32
@@ -86,7 +88,7 @@ module _ (a : List ℕ) (x : Operands) (h : OperandsFit x) where
       ⊗ or-fit (x .c) (h .c-fits) (x .d) (x .s) (h .d-fits) (h .s-fits)
       ⊗ xor-fit (x .c) (h .c-fits) (x .d) (x .s) (h .d-fits) (h .s-fits)
       ⊗ not-fit (x .c) (h .c-fits) (x .d)
-      ⊗ record { z-fits = bit-fits (eqb (x .d / 2 ^ (s % 32) % 2) 0); n-fits = h .n-fits; c-fits = h .c-fits }
+      ⊗ record { z-bit = bit-fits (eqb (x .d / 2 ^ (s % 32) % 2) 0); n-bit = h .n-fits; c-bit = h .c-fits }
       ⊗ bset-fit (x .c) (h .c-fits) (x .d) s (h .d-fits)
       ⊗ bclr-fit (x .c) (h .c-fits) (x .d) s (h .d-fits)
       ⊗ mult-fit (x .c) (h .c-fits) (x .d) (x .s)
@@ -96,10 +98,10 @@ module _ (a : List ℕ) (x : Operands) (h : OperandsFit x) where
       ⊗ omega arith
       ⊗ div-fits (x .d) (h .d-fits) (x .s) (h .s-fits) (x .mode)
       ⊗ abs-fit (x .d) (h .d-fits)
-      ⊗ sh-fit (x .d) (h .d-fits) (x .s)
+      ⊗ shift-fit (x .d) (h .d-fits) rightOf (right-fit (x .d) (h .d-fits)) (x .s)
       ⊗ left-fit (x .d) (h .d-fits) (quickOf s)
       ⊗ right-fit (x .d) (h .d-fits) (quickOf s)
-      ⊗ sha-fit (x .d) (h .d-fits) (x .s)
+      ⊗ shift-fit (x .d) (h .d-fits) rightSignedOf (right-signed-fit (x .d) (h .d-fits)) (x .s)
       ⊗ right-signed-fit (x .d) (h .d-fits) (quickOf s)
       ⊗ rotate-fit (x .d) (h .d-fits) (x .s)
       ⊗ rotate-fit (x .d) (h .d-fits) (quickOf s)
@@ -131,13 +133,5 @@ module _ (a : List ℕ) (x : Operands) (h : OperandsFit x) where
       ⊗ saturated-fit (x .c) (h .c-fits) 16777215 (x .d) (omega arith)
       ⊗ tt
 
-  decoded : (op s d : ℕ) → EffectFits (effectIn (decodedAt op s d) a x)
-  unfolding decodedAt instructionAt
-  decoded op s d = go (built op (eqb s 0) (eqb d 0))
-    where
-      go : (t : Bool) → EffectFits (effectIn (cond t (D.Built (among op (instructions s d))) noInstruction) a x)
-      go true = found (λ i. EffectFits (effectOf i a x)) op tt (instructions s d) (each s d)
-      go false = tt
-
-  pub effect-fits : (w : ℕ) → EffectFits (effectIn (decodeOf w) a x)
-  effect-fits w = decoded (w / 1024) (w / 32 % 32) (w % 32)
+  pub effect-fits : (op s d : ℕ) → EffectFits (effectOf (among op (instructions s d)) a x)
+  effect-fits op s d = found (λ i. EffectFits (effectOf i a x)) op tt (instructions s d) (each s d)

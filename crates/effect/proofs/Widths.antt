@@ -11,40 +11,31 @@ use lib.Bits.{and-le-l, or-lt, xor-lt}
 use lib.Pow.{pow-lt, shr-le}
 use lib.IntN.{ℤ, pos, negsuc, natAbs}
 use lib.Signed.{natAbs-le, ltZ}
-use mir.Syntax.{w32}
+use mir.Syntax.{w16, w32}
 use mir.Val.{toZ}
 use mir.Facts.{sfits-toZ, fits-ofZ}
 use Rattle.values.specs.declared.Computed.{Computed}
-use Rattle.values.specs.declared.Flags.{Flags}
-use Rattle.values.specs.Results.{bitOf, computedOf, flagsOf}
+use Rattle.values.specs.Results.{computedOf, flagsOf, IsFlags}
+use Rattle.values.proofs.Bits.{bit-fits}
 use Rattle.values.proofs.TwosComplement.{mul-fits, narrow, shr-fits}
 use Rattle.alu.specs.Add.{addOf, addcOf, subOf, subcOf, absOf}
 use Rattle.alu.specs.Logic.{andOf, orOf, xorOf, notOf, bsetOf, bclrOf}
 use Rattle.multiplier.specs.Multiply.{multOf, productOf, imultOf}
 use Rattle.multiplier.specs.Divide.{divideOf, divOf}
 use Rattle.multiplier.proofs.Products.{product-fits}
-use Rattle.shifter.specs.Shift.{leftOf, rightOf, rightSignedOf, shOf, shaOf, rotateOf}
-use Rattle.shifter.specs.Saturate.{heldOf, saturatedOf}
+use Rattle.shifter.specs.Shift.{leftOf, rightOf, rightSignedOf, shiftOf, rotateOf}
+use Rattle.shifter.specs.Saturate.{clampOf, saturatedOf}
 use Rattle.shifter.specs.Normalise.{mtoiOf, normiOf}
-use Rattle.shifter.proofs.Rotations.{rotated}
+use Rattle.shifter.proofs.Shifts.{rotated}
 
 -- a result of 32 bits, and a bit as its carry
 pub record Fit (r : Computed) : Type 0 where
   pub value-fits : r .value < 2 ^ 32
   pub carry-fits : r .carry < 2
 
-pub record FlagsFit (f : Flags) : Type 0 where
-  pub z-fits : f .z < 2
-  pub n-fits : f .n < 2
-  pub c-fits : f .c < 2
-
-pub bit-fits : (t : Bool) → bitOf t < 2
-bit-fits true = omega arith
-bit-fits false = omega arith
-
-pub flags-fit : (r : Computed) → Fit r → FlagsFit (flagsOf r)
+pub flags-fit : (r : Computed) → Fit r → IsFlags (flagsOf r)
 flags-fit r f =
-    record { z-fits = bit-fits (eqb (r .value) 0); n-fits = omega (arith, f .value-fits); c-fits = f .carry-fits }
+    record { z-bit = bit-fits (eqb (r .value) 0); n-bit = omega (arith, f .value-fits); c-bit = f .carry-fits }
 
 -- a choice between two numbers that fit
 chosen : (t : Bool) (a b top : ℕ) → a < top → b < top → cond t a b < top
@@ -80,7 +71,7 @@ module _ (d : ℕ) (hd : d < 2 ^ 32) where
   pub right-signed-fit : (k : ℕ) → Fit (rightSignedOf d k)
   right-signed-fit k =
       record {
-        value-fits = fits-ofZ {w = w32} (shr-fits d (2 ^ cond (ltb k 32) k 31) (record { fits = hd })) .fits;
+        value-fits = fits-ofZ (shr-fits {w = w32} (2 ^ cond (ltb k 32) k 31) (record { fits = hd })) .fits;
         carry-fits = omega arith;
       }
 
@@ -93,13 +84,9 @@ module _ (d : ℕ) (hd : d < 2 ^ 32) where
         carry-fits = omega arith;
       }
 
-  pub sh-fit : (s : ℕ) → Fit (shOf d s)
-  sh-fit s =
-      either (ltZ (toZ w32 s) (pos 0)) _ _ (left-fit (natAbs (toZ w32 s))) (right-fit (natAbs (toZ w32 s)))
-
-  pub sha-fit : (s : ℕ) → Fit (shaOf d s)
-  sha-fit s =
-      either (ltZ (toZ w32 s) (pos 0)) _ _ (left-fit (natAbs (toZ w32 s))) (right-signed-fit (natAbs (toZ w32 s)))
+  pub shift-fit : (right : ℕ → ℕ → Computed) → ((k : ℕ) → Fit (right d k)) → (s : ℕ) → Fit (shiftOf right d s)
+  shift-fit right fit s =
+      either (ltZ (toZ w32 s) (pos 0)) _ _ (left-fit (natAbs (toZ w32 s))) (fit (natAbs (toZ w32 s)))
 
   -- a difference is a word whatever is taken away
   pub sub-fit : (s : ℕ) → Fit (subOf d s)
@@ -125,15 +112,15 @@ module _ (d : ℕ) (hd : d < 2 ^ 32) where
             (omega arith, lt-trans (mod-lt (cond (eqb mode 1) (d * 65536) d) some) hs)
 
 pub product-fit : (d s : ℕ) → productOf d s < 2 ^ 32
-product-fit d s = fits-ofZ {w = w32} (mul-fits _ _ (narrow d) (narrow s)) .fits
+product-fit d s = fits-ofZ (mul-fits w16 w32 (omega arith) _ _ (narrow d) (narrow s)) .fits
 
-held-fit : (top : ℕ) (z : ℤ) → heldOf top z ≤ top
-held-fit top (pos n) = go (ltb top n) refl
+clamp-fit : (top : ℕ) (z : ℤ) → clampOf top z ≤ top
+clamp-fit top (pos n) = go (ltb top n) refl
   where
     go : (t : Bool) → ltb top n ≡ t → cond t top n ≤ top
     go true e = omega arith
     go false e = omega (arith, ltb-false top n e)
-held-fit top (negsuc n) = omega arith
+clamp-fit top (negsuc n) = omega arith
 
 -- the operations that hand C back
 module _ (c : ℕ) (hc : c < 2) where
@@ -165,7 +152,7 @@ module _ (c : ℕ) (hc : c < 2) where
   imult-fit d s = with-c _ (product-fit d s)
 
   pub saturated-fit : (top d : ℕ) → top < 2 ^ 32 → Fit (saturatedOf top d c)
-  saturated-fit top d h = with-c _ (lt-of-le-of-lt (held-fit top (toZ w32 d)) h)
+  saturated-fit top d h = with-c _ (lt-of-le-of-lt (clamp-fit top (toZ w32 d)) h)
 
   pub mtoi-fit : (s : ℕ) → Fit (mtoiOf s c)
   mtoi-fit s = with-c _ (chosen (ltb s (2 ^ 31)) _ _ (2 ^ 32) (omega arith) (omega arith))

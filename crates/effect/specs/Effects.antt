@@ -16,7 +16,7 @@ use Rattle.alu.specs.Logic.{andOf, orOf, xorOf, notOf, btstOf, bsetOf, bclrOf}
 use Rattle.branch.specs.Jump.{jrTargetOf}
 use Rattle.multiplier.specs.Multiply.{multOf, imultOf, imacnOf}
 use Rattle.multiplier.specs.Divide.{divOf}
-use Rattle.shifter.specs.Shift.{leftOf, rightOf, rightSignedOf, shOf, shaOf, rotateOf}
+use Rattle.shifter.specs.Shift.{leftOf, rightOf, rightSignedOf, shiftOf, rotateOf}
 use Rattle.shifter.specs.Saturate.{sat8Of, sat16Of, sat24Of}
 use Rattle.shifter.specs.Normalise.{mtoiOf, normiOf}
 use Rattle.effect.specs.declared.Operands.{Operands}
@@ -24,8 +24,8 @@ use Rattle.effect.specs.declared.Effect.{Effect}
 use Rattle.effect.specs.declared.Effect.the-variants as E
 use Rattle.effect.specs.declared.Effect.the-variants.{Refused, Nothing, Write, Keep, Divide, Product, Accumulate, ToOther, FromOther, Immediate, Counter}
 
-abbrev pub flagsIn : Operands → Flags
-flagsIn x = record { z = x .z; n = x .n; c = x .c }
+abbrev pub operandFlags : Operands → Flags
+operandFlags x = record { z = x .z; n = x .n; c = x .c }
 
 -- "address in a register, or R14 or R15 plus 4 × quick n or plus a register, modulo 2^32"
 abbrev pub addressOf : List ℕ → ℕ → ℕ → ℕ
@@ -46,7 +46,7 @@ effectOf (And s d) a x = Write d (andOf (x .d) (x .s) (x .c))
 effectOf (Or s d) a x = Write d (orOf (x .d) (x .s) (x .c))
 effectOf (Xor s d) a x = Write d (xorOf (x .d) (x .s) (x .c))
 effectOf (Not d) a x = Write d (notOf (x .d) (x .c))
-effectOf (Btst b d) a x = E.Flags (btstOf (x .d) b (flagsIn x))
+effectOf (Btst b d) a x = E.Flags (btstOf (x .d) b (operandFlags x))
 effectOf (Bset b d) a x = Write d (bsetOf (x .d) b (x .c))
 effectOf (Bclr b d) a x = Write d (bclrOf (x .d) b (x .c))
 effectOf (Mult s d) a x = Write d (multOf (x .d) (x .s) (x .c))
@@ -56,10 +56,10 @@ effectOf (Resmac d) a x = Keep d (x .acc)
 effectOf (Imacn s d) a x = Accumulate (imacnOf (x .acc) (x .d) (x .s))
 effectOf (Div s d) a x = Divide d (divOf (x .d) (x .s) (x .mode))
 effectOf (Abs d) a x = Write d (absOf (x .d))
-effectOf (Sh s d) a x = Write d (shOf (x .d) (x .s))
+effectOf (Sh s d) a x = Write d (shiftOf rightOf (x .d) (x .s))
 effectOf (Shlq q d) a x = Write d (leftOf (x .d) (quickOf q))
 effectOf (Shrq q d) a x = Write d (rightOf (x .d) (quickOf q))
-effectOf (Sha s d) a x = Write d (shaOf (x .d) (x .s))
+effectOf (Sha s d) a x = Write d (shiftOf rightSignedOf (x .d) (x .s))
 effectOf (Sharq q d) a x = Write d (rightSignedOf (x .d) (quickOf q))
 effectOf (Ror s d) a x = Write d (rotateOf (x .d) (x .s))
 effectOf (Rorq q d) a x = Write d (rotateOf (x .d) (quickOf q))

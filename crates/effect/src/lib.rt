@@ -5,7 +5,7 @@ ghost use lib.Dec.{eqb};
 ghost use Rattle.alu.specs.Add.{addOf, subOf};
 ghost use Rattle.alu.specs.Logic.{btstOf};
 ghost use Rattle.isa.specs.Words.{decodedAt};
-ghost use Rattle.effect.specs.Effects.{flagsIn, addressOf, effectIn, nopOf};
+ghost use Rattle.effect.specs.Effects.{operandFlags, addressOf, effectIn, nopOf};
 use alu::add::abs;
 use alu::add::add;
 use alu::add::addc;
@@ -105,7 +105,7 @@ fn minus(d: u32, n: u32) -> u32
 }
 
 fn tested(x: Operands, bit: u32) -> Flags
-    ensures { λ r. ⌜ r ≡ btstOf (x .d) bit (flagsIn x) ⌝ }
+    ensures { λ r. ⌜ r ≡ btstOf (x .d) bit (operandFlags x) ⌝ }
 {
     btst(
         x.d,

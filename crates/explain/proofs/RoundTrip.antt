@@ -20,7 +20,7 @@ use Rattle.advice.specs.Explanation.{said, explanationOf}
 use Rattle.explain.specs.ReadsBack.{Fits, ReadsBack}
 use Rattle.parser.specs.declared.Reading.the-variants.{Card as Read, Check}
 use Rattle.scanner.specs.Lines.{number, none, Digits, decimal, hexadecimal, digitValue, numberIn, keyedIn}
-use Rattle.parser.specs.Readings.{checkOf, cardOf, readingOf}
+use Rattle.parser.specs.Readings.{checkReading, cardReading, readingOf}
 
 -- A digit counts what it was written for.
 value : (x : ℕ) → x < 16 → digitValue (digitOf x) ≡ x
@@ -116,7 +116,7 @@ hex-line key n t h =
     (hex-read 8 n (10 ∷ t) (omega arith) (omega arith) (omega arith) ∙ feed hexadecimal n 8 t (omega arith))
 
 round-trip : (card : Card) → Fits card → readingOf (cardText card) ≡ Read (card .answer) (card .steps) (card .pc)
-unfolding readingOf cardOf cardText bytes
+unfolding readingOf cardReading cardText bytes
 round-trip card fits =
     rw (decimal-line answerKey (card .answer) _ (fits .answer), decimal-line stepsKey (card .steps) _ (fits .steps), hex-line pcKey (card .pc) _ (fits .pc), hex-line flagsKey (card .flags) _ (fits .flags), hex-line remainKey (card .remainder) _ (fits .remainder), ← append-nil (lineOf accKey (hexDigits 8 (card .accumulator))), hex-line accKey (card .accumulator) [] (fits .accumulator))
 
@@ -125,7 +125,7 @@ unfolding keyedIn lineOf bytes
 no-steps digits = refl
 
 check-round-trip : (answer address : ℕ) → answer < 2 ^ 32 → address < 2 ^ 32 → readingOf (checkText answer address) ≡ Check answer address
-unfolding readingOf checkOf checkText bytes
+unfolding readingOf checkReading checkText bytes
 check-round-trip answer address a b =
     rw (decimal-line answerKey answer _ a, no-steps (hexDigits 8 address), ← append-nil (lineOf (bytes "address=") (hexDigits 8 address)), hex-line (bytes "address=") address [] b)
 

@@ -94,14 +94,14 @@ module _ (w : ℕ) (small : w < 65536) where
   go : {r : Decoded} (t : Bool) → builtWord w ≡ t → r ≡ cond t (Built (instructionAt (w / 1024) (w / 32 % 32) (w % 32))) noInstruction → Decodes w r
   go true b e =
       record {
-        exactly = ap isBuilt e ∙ sym b;
+        is-built = ap isBuilt e ∙ sym b;
         back = λ i r.
             let same-instruction : instructionAt (w / 1024) (w / 32 % 32) (w % 32) ≡ i = cc in
             back-at i (ap (λ j. fieldsIn (formOf j)) (sym same-instruction) ∙ fields-kept (w / 1024) (w / 32 % 32) (w % 32) (omega arith) b);
       }
   go false b e =
       record {
-        exactly = ap isBuilt e ∙ sym b;
+        is-built = ap isBuilt e ∙ sym b;
         back = λ i r. let never : _≡_ {A = ℕ} 0 1 = cc in absurd (omega arith);
       }
 
@@ -110,7 +110,7 @@ module _ (w : ℕ) (small : w < 65536) where
   decodes e = go (builtWord w) refl e
 
 -- each instruction is found at its own fields
-found : (i : Instr) → (ltb (opcodeIn (formOf i)) 64 ≡ true) × (decodedAt (opcodeIn (formOf i)) (sourceIn (formOf i)) (destinationIn (formOf i)) ≡ Built i)
+pub found : (i : Instr) → (ltb (opcodeIn (formOf i)) 64 ≡ true) × (decodedAt (opcodeIn (formOf i)) (sourceIn (formOf i)) (destinationIn (formOf i)) ≡ Built i)
 unfolding decodedAt instructionAt
 found (Add s d) = (refl, refl)
 found (Addc s d) = (refl, refl)

@@ -1,35 +1,38 @@
 // The run and the loading check as the kiosk's C program calls them. A run takes RAM, a state block of 69 longs, high byte
 // first, and a budget.
 ghost use mathlib.Core.Path.{_≡_};
-ghost use Rattle.memory.specs.Processor.{gpu};
+ghost use Rattle.processor.specs.Processor.{gpu};
 ghost use Rattle.rules.specs.Check.{checkOf};
 ghost use Rattle.rules.specs.Safety.{Demand3, Tells, GoesOn};
-ghost use Rattle.machine.specs.Types.{IsBytes};
+ghost use Rattle.core.specs.Machine.{lent};
+ghost use Rattle.core.specs.Types.{IsBytes, HoldsBytes};
 ghost use Rattle.calls.specs.Call.{called, callOf, checkReply};
 ghost use Rattle.calls.specs.Display.{Display};
+use block::BLOCK_LENGTH;
 use block::is_valid;
 use block::read;
 use block::write;
 use loading::check;
+use machine::BUDGET_LIMIT;
 use machine::run;
-use memory::long_at;
+use processor::Gpu;
 
 // The second promise: what `Display` assumes of the buffers is so in every call.
 #[no_mangle]
 pub extern "C" fn gpu_run(ram: &mut [u8], block: &mut [u8], budget: u64) -> u64
-    ensures { λ r. ⌜ called r (now (ram .exit)) (now (block .exit)) ≡ callOf (now (ram .entry)) (now (block .entry)) budget ⌝ }
-    ensures { λ _. ⌜ IsBytes (now (ram .entry)) × IsBytes (now (block .entry)) ⌝ }
+    ensures { λ r. ⌜ called r (lent (now (ram .exit))) (now (block .exit)) ≡ callOf (lent (now (ram .entry))) (now (block .entry)) budget ⌝ }
+    ensures { λ _. ⌜ HoldsBytes (lent (now (ram .entry))) × IsBytes (now (block .entry)) ⌝ }
 {
-    if ram.len() != 4096 {
+    if ram.len() != Gpu::SIZE {
         return 31;
     }
-    if block.len() != 276 {
+    if block.len() != BLOCK_LENGTH {
         return 35;
     }
-    if !is_valid(long_at(block, 272), long_at(block, 260)) {
+    if !is_valid(block) {
         return 34;
     }
-    if 1000000 < budget {
+    if BUDGET_LIMIT < budget {
         return 32;
     }
     let s = read(block);

@@ -1,4 +1,4 @@
-pub mod Faults
-pub mod Lengths
-pub mod Widths
+pub mod Core
+pub mod Longs
+pub mod Instruction
 pub mod Runs

@@ -3,6 +3,7 @@
 ghost use mathlib.Core.Path.{_≡_};
 ghost use Rattle.loadcheck.specs.Length.{lengthOf};
 use loading::check;
+use processor::Gpu;
 use scanner::Found;
 use scanner::first_number;
 
@@ -16,7 +17,7 @@ fn length_in(text: &[u8]) -> u64
 }
 
 fn main() {
-    let mut image = [0u8; 4096];
+    let mut image = [0u8; Gpu::SIZE];
     let n = io::read_full(0, &mut image);
     // A length has at most four digits. Line feeds stand behind what is read, so that the end of the input ends it too.
     let mut digits = [b'\n'; 16];

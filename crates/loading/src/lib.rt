@@ -2,14 +2,16 @@
 ghost use mathlib.Core.Path.{_≡_};
 ghost use Prim.Native.Nat.{_≤_};
 ghost use lib.ListN.{length};
-ghost use Rattle.memory.specs.Processor.{gpu};
+ghost use Rattle.processor.specs.Processor.{gpu};
 ghost use Rattle.rules.specs.Verdicts.{ruleOf};
 ghost use Rattle.rules.specs.Check.{orElse, isLength, rulesOf, checkOf};
-ghost use Rattle.rules.specs.KnownRows.{KnownRows};
+ghost use Rattle.known.specs.KnownRows.{KnownRows};
 ghost use Rattle.rules.specs.Safety.{Demand3, Tells, GoesOn};
 use accesses::first_access;
 use passes::first_broken;
 use passes::lowest_broken;
+use processor::Gpu;
+use reading::MARKS;
 use reading::mark_code;
 use rules::Hit;
 use rules::Rule;
@@ -40,11 +42,11 @@ fn told(rule: Rule, h: Hit) -> Verdict
 
 // The six rules, each over the whole code. One pass finds which of the first five is broken, and only then another where.
 fn rules(code: &[u8]) -> Verdict
-    requires { ⌜ length (now code) ≤ 4096 ⌝ }
+    requires { ⌜ length (now code) ≤ gpu .size ⌝ }
     ensures { λ r. ⌜ r ≡ rulesOf gpu (now (code .entry)) ⌝ }
 {
-    let mut starts = [false; 4104];
-    let mut targets = [false; 4104];
+    let mut starts = [false; MARKS];
+    let mut targets = [false; MARKS];
     mark_code(code, &mut starts, &mut targets);
     let n = lowest_broken(code, &starts, &targets);
     if n < 6 {
@@ -57,7 +59,11 @@ fn is_length(c: u64) -> bool
     ensures { λ r. ⌜ r ≡ isLength gpu c ⌝ }
 {
     if 4 <= c {
-        if c <= 4096 { c % 4 == 0 } else { false }
+        if c <= Gpu::SIZE as u64 {
+            c % 4 == 0
+        } else {
+            false
+        }
     } else {
         false
     }
@@ -70,7 +76,7 @@ pub fn check(ram: &[u8], code_len: u64) -> Verdict
     ensures { λ _. ⌜ Demand3 gpu × Tells gpu × GoesOn gpu ⌝ }
     ensures { λ _. ⌜ KnownRows ⌝ }
 {
-    if ram.len() != 4096 {
+    if ram.len() != Gpu::SIZE {
         return Verdict::RamLength;
     }
     if !is_length(code_len) {

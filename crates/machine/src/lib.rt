@@ -1,21 +1,25 @@
-// The machine: its whole state, by value, a step, and a run of instructions one after another up to a budget.
+// The machine: a step, and a run of instructions one after another up to a budget.
 ghost use mathlib.Core.Path.{_≡_};
-ghost use Rattle.memory.specs.Processor.{gpu};
+ghost use Rattle.processor.specs.Processor.{gpu};
 ghost use Rattle.rows.specs.Rows.{RowsHold};
-ghost use Rattle.state.specs.State.{flagRegisterOf};
-ghost use Rattle.machine.specs.State.{withZ, withN, withC, innerOf, outerOf};
-ghost use Rattle.machine.specs.Run.{ranWith, runOf, stepOf};
-ghost use Rattle.machine.specs.Types.{IsBytes, IsState};
+ghost use Rattle.core.specs.Core.{flagRegisterOf};
+ghost use Rattle.core.specs.Machine.{lent};
+ghost use Rattle.core.specs.Types.{HoldsBytes};
+ghost use Rattle.machine.specs.State.{withZ, withN, withC, coreOf, stateWith, IsState};
+ghost use Rattle.machine.specs.Run.{activityOf, ranWith, runOf, stepOf};
 ghost use Rattle.machine.specs.Laws.{Laws};
 use answers::Answer;
-use cycle::go;
-use registers::settle;
-use state::Activity;
-use state::Core;
-use state::Pending;
-use state::flag_word;
+use answers::End;
+use core::Activity;
+use core::Core;
+use core::Pending;
+use cycle::from_banks;
+use processor::Gpu;
 use values::Flags;
 use values::bit;
+
+// The most instructions that a run may be asked for.
+pub const BUDGET_LIMIT: u64 = 1000000;
 
 // The whole state, as paper 01 lists it.
 pub struct State {
@@ -43,12 +47,11 @@ pub struct Ran {
 }
 
 // The state of two banks and the rest.
-fn outer(bank0: [u32; 32], bank1: [u32; 32], k: Core) -> State
-    ensures { λ r. ⌜ r ≡ outerOf bank0 bank1 k ⌝ }
+fn state_with(bank0: [u32; 32], bank1: [u32; 32], k: Core, activity: Activity) -> State
+    ensures { λ r. ⌜ r ≡ stateWith bank0 bank1 k activity ⌝ }
 {
     let f = k.flags;
     let pending = k.pending;
-    let activity = k.activity;
     State {
         bank0: bank0,
         bank1: bank1,
@@ -65,49 +68,67 @@ fn outer(bank0: [u32; 32], bank1: [u32; 32], k: Core) -> State
     }
 }
 
+// Whether the machine still runs.
+fn activity(end: End) -> Activity
+    ensures { λ r. ⌜ r ≡ activityOf end ⌝ }
+{
+    match end {
+        End::Completed => Activity::Running,
+        End::Stopped => Activity::Stopped,
+        End::Faulted(_) => Activity::Running,
+    }
+}
+
 // A run of at most budget instructions. A refused run changes nothing. The second promise: what the laws and demand 3 assume of
 // RAM and of a state is so wherever a run is called. The third: the laws of runs, and that the rows of paper 01 that are marked p hold
 // of the effects that a run is made of.
 pub fn run(ram: &mut [u8], state: State, budget: u64) -> Ran
-    ensures { λ r. ⌜ ranWith r (now (ram .exit)) ≡ runOf gpu (now (ram .entry)) state budget ⌝ }
-    ensures { λ _. ⌜ IsBytes (now (ram .entry)) × IsState state ⌝ }
+    ensures { λ r. ⌜ ranWith r (lent (now (ram .exit))) ≡ runOf gpu (lent (now (ram .entry))) state budget ⌝ }
+    ensures { λ _. ⌜ HoldsBytes (lent (now (ram .entry))) × IsState state ⌝ }
     ensures { λ _. ⌜ Laws gpu × RowsHold ⌝ }
 {
-    if ram.len() != 4096 {
+    if ram.len() != Gpu::SIZE {
         return Ran {
             answer: Answer::RamLength,
             steps: 0,
             state: state,
         };
     }
-    if 1000000 < budget {
+    if BUDGET_LIMIT < budget {
         return Ran {
             answer: Answer::BudgetLimit,
             steps: 0,
             state: state,
         };
     }
-    let mut a = state.bank0;
-    let mut b = state.bank1;
-    settle(&mut a, &mut b, !state.second);
-    let g = go(&mut a, &mut b, state.inner(), ram, budget as u32);
-    let after = g.core;
-    let answer = g.answer;
-    settle(&mut a, &mut b, after.bank % 2 != 1);
-    Ran {
-        answer: answer,
-        steps: g.steps,
-        state: outer(a, b, after),
+    let running = state.activity;
+    match running {
+        Activity::Stopped => Ran {
+            answer: Answer::Stopped,
+            steps: 0,
+            state: state,
+        },
+        Activity::Running => {
+            let mut a = state.bank0;
+            let mut b = state.bank1;
+            let g = from_banks(&mut a, &mut b, state.core(), ram, budget as u32);
+            let after = g.core;
+            let end = g.end;
+            Ran {
+                answer: end.answer(),
+                steps: g.steps,
+                state: state_with(a, b, after, activity(end)),
+            }
+        }
     }
 }
 
 impl State {
-    // The rest beside the banks, in the inner form.
-    fn inner(self) -> Core
-        ensures { λ r. ⌜ r ≡ innerOf self ⌝ }
+    // The rest beside the banks, in numbers.
+    fn core(self) -> Core
+        ensures { λ r. ⌜ r ≡ coreOf self ⌝ }
     {
         let pending = self.pending;
-        let activity = self.activity;
         Core {
             bank: bit(self.second),
             flags: Flags {
@@ -120,17 +141,14 @@ impl State {
             remainder: self.remainder,
             mode: bit(self.mode),
             accumulator: self.accumulator,
-            activity: activity,
         }
     }
 
     // What the flag register reads.
     pub fn flag_register(self) -> u32
-        ensures { λ r. ⌜ r ≡ flagRegisterOf (innerOf self) ⌝ }
+        ensures { λ r. ⌜ r ≡ flagRegisterOf (coreOf self) ⌝ }
     {
-        let k = self.inner();
-        let f = k.flags;
-        flag_word(f, k.bank)
+        self.core().flag_register()
     }
 
     // The setters of the flags.
@@ -157,8 +175,8 @@ impl State {
 
     // One step; it answers as a run of budget 1.
     pub fn step(self, ram: &mut [u8]) -> Ran
-        ensures { λ r. ⌜ ranWith r (now (ram .exit)) ≡ stepOf gpu (now (ram .entry)) self ⌝ }
-        ensures { λ _. ⌜ IsBytes (now (ram .entry)) × IsState self ⌝ }
+        ensures { λ r. ⌜ ranWith r (lent (now (ram .exit))) ≡ stepOf gpu (lent (now (ram .entry))) self ⌝ }
+        ensures { λ _. ⌜ HoldsBytes (lent (now (ram .entry))) × IsState self ⌝ }
     {
         run(ram, self, 1)
     }

@@ -1,83 +1,71 @@
--- An address told by its offset from the base modulo 2^32: whether it lies in local RAM, and where.
+-- An address told by its offset from the base modulo 2^32: whether it lies in local RAM, and where, at every sound processor.
 -- Assumes nothing.
-use mathlib.Core.Path.{_≡_, refl, ap}
+use mathlib.Core.Path.{_≡_, refl}
 use mathlib.Core.Bool.{Bool, true, false, cond}
 use mathlib.Core.List.{List}
 use Prim.Native.Nat.{ℕ, _+_, _-_, _*_, _%_, _^_, _<_, _≤_}
 use native.Mathlib.Omega.{arith}
-use borrow.Author.Tests.{eq-eqb, ne-eqb, lt-ltb, le-ltb, ltb-true, ltb-false}
+use borrow.Author.Tests.{eq-eqb, ne-eqb, lt-ltb, le-ltb, eqb-true, eqb-false, ltb-true, ltb-false}
 use lib.Dec.{eqb, ltb}
 use lib.ListN.{length}
-use Rattle.memory.specs.Processor.{gpu}
-use Rattle.memory.specs.Memory.{wordAt, noWord, fetchOf, lowOf, immediateOf, placeOf, registerOf}
-use Rattle.memory.specs.declared.Fetched.{Fetched}
-use Rattle.memory.specs.declared.Fetched.the-variants.{Word, Refused}
-use Rattle.answers.specs.declared.Fault.{Fault}
+use Rattle.processor.specs.Processor.{Processor, Sound}
+use Rattle.memory.specs.Memory.{wordAt, noWord, fetchOf, immediateOf, placeOf, registerOf}
+use Rattle.memory.specs.declared.Fetched.the-variants.{Word}
 use Rattle.answers.specs.declared.Fault.the-variants.{BadCounter}
-use Rattle.memory.specs.declared.Immediate.the-variants as I
+use Rattle.memory.specs.declared.Received.the-variants as I
 use Rattle.memory.specs.declared.Place.the-variants.{Ram}
-use Rattle.memory.proofs.Refusals.{counter-alone}
 
-module _ (a at : ℕ) (e : (at + 0xF03000) % 2 ^ 32 ≡ a) (fits : at < 2 ^ 32) where
-  module _ (ram : List ℕ) (whole : length ram ≡ 4096) where
-    pub odd : at % 2 ≡ 1 → fetchOf gpu ram a ≡ noWord
-    odd h = go (ltb a 0xF03000)
+module _ (P : Processor) (sound : Sound P) where
+  module _ (a at : ℕ) (e : (at + P .base) % 2 ^ 32 ≡ a) (fits : at < 2 ^ 32) where
+    module _ (ram : List ℕ) (whole : length ram ≡ P .size) where
+      pub word-inside : at % 2 ≡ 0 → at < P .size → fetchOf P ram a ≡ Word (wordAt ram at)
+      word-inside even h =
+          let d : a - P .base ≡ at = omega (arith, sound .top) in
+          rw (le-ltb a (P .base) (omega (arith, sound .top)), ne-eqb (a % 2) 1 (λ o. omega (arith, o, sound .top, sound .base-aligned)), d, lt-ltb (at + 1) (length ram) (omega (arith, sound .size-aligned)))
+
+      pub word-outside : (at % 2 ≡ 0 → at < P .size → ⊥) → fetchOf P ram a ≡ noWord
+      word-outside h = go (ltb a (P .base)) (eqb (a % 2) 1) (ltb (a - P .base + 1) (length ram)) refl refl refl
+        where
+          go : (s t u : Bool) → ltb a (P .base) ≡ s → eqb (a % 2) 1 ≡ t → ltb (a - P .base + 1) (length ram) ≡ u → cond s noWord (cond t noWord (cond u (Word (wordAt ram (a - P .base))) noWord)) ≡ noWord
+          go true t u es et eu = refl
+          go false true u es et eu = refl
+          go false false false es et eu = refl
+          go false false true es et eu =
+              let l = ltb-false a (P .base) es in
+              let even = eqb-false (a % 2) 1 et in
+              let below = ltb-true (a - P .base + 1) (length ram) eu in
+              absurd (h (omega (arith, even, sound .top, sound .base-aligned)) (omega (arith, sound .top)))
+
+    module _ (aligned : a % 4 ≡ 0) where
+      pub ram-place : at < P .size → placeOf P a ≡ Ram at
+      ram-place h =
+          let d : a - P .base ≡ at = omega (arith, sound .top) in
+          rw (eq-eqb (a % 4) 0 aligned, le-ltb a (P .base) (omega (arith, sound .top)), d, lt-ltb at (P .size) h)
+
+      pub register-place : P .size ≤ at → placeOf P a ≡ registerOf P a
+      register-place h = rw (eq-eqb (a % 4) 0 aligned) (go (ltb a (P .base)) refl)
+        where
+          go : (t : Bool) → ltb a (P .base) ≡ t → cond t (registerOf P a) (cond (ltb (a - P .base) (P .size)) (Ram (a - P .base)) (registerOf P a)) ≡ registerOf P a
+          go true below = refl
+          go false above =
+              let l : P .base ≤ a = ltb-false a (P .base) above in
+              rw (le-ltb (a - P .base) (P .size) (omega (arith, sound .top)))
+
+  -- the long behind pc, by the offset of its first word
+  module _ (pc at : ℕ) (e : (at + P .base) % 2 ^ 32 ≡ (pc + 2) % 2 ^ 32) (fits : at < 2 ^ 32) (ram : List ℕ) (whole : length ram ≡ P .size) where
+    pub long-inside : at % 2 ≡ 0 → at + 3 < P .size → immediateOf P ram pc ≡ I.Long (wordAt ram (at + 2) * 2 ^ 16 + wordAt ram at)
+    unfolding immediateOf
+    long-inside even h =
+        rw (word-inside _ at e fits ram whole even (omega arith), word-inside ((pc + 4) % 2 ^ 32) (at + 2) (omega arith) (omega (arith, sound .top)) ram whole (omega arith) (omega arith))
+
+    pub long-outside : (at % 2 ≡ 0 → at + 3 < P .size → ⊥) → immediateOf P ram pc ≡ I.Refused BadCounter
+    unfolding immediateOf
+    long-outside h = go (eqb (at % 2) 0) (ltb at (P .size)) refl refl
       where
-        go : (t : Bool) → cond t noWord (cond (eqb (a % 2) 1) noWord (cond (ltb (a - 0xF03000 + 1) (length ram)) (Word (wordAt ram (a - 0xF03000))) noWord)) ≡ noWord
-        go true = refl
-        go false = rw (eq-eqb (a % 2) 1 (omega arith))
-
-    pub inside : (at % 2 ≡ 1 → ⊥) → at + 1 < length ram → fetchOf gpu ram a ≡ Word (wordAt ram at)
-    inside even h =
-        let d : a - 0xF03000 ≡ at = omega arith in
-        rw (le-ltb a 0xF03000 (omega arith), ne-eqb (a % 2) 1 (λ o. even (omega arith)), d, lt-ltb (at + 1) (length ram) h)
-
-    pub outside : length ram ≤ at + 1 → fetchOf gpu ram a ≡ noWord
-    outside h = go (ltb a 0xF03000) refl (eqb (a % 2) 1)
-      where
-        go : (t : Bool) → ltb a 0xF03000 ≡ t → (u : Bool) → cond t noWord (cond u noWord (cond (ltb (a - 0xF03000 + 1) (length ram)) (Word (wordAt ram (a - 0xF03000))) noWord)) ≡ noWord
-        go true below u = refl
-        go false above true = refl
-        go false above false =
-            let l : 0xF03000 ≤ a = ltb-false a 0xF03000 above in
-            rw (le-ltb (a - 0xF03000 + 1) (length ram) (omega arith))
-
-  pub in-ram : a % 4 ≡ 0 → at < 4096 → placeOf gpu a ≡ Ram at
-  in-ram aligned h =
-      let d : a - 0xF03000 ≡ at = omega arith in
-      rw (eq-eqb (a % 4) 0 aligned, le-ltb a 0xF03000 (omega arith), d, lt-ltb at 4096 h)
-
-  pub in-registers : a % 4 ≡ 0 → 4096 ≤ at → placeOf gpu a ≡ registerOf gpu a
-  in-registers aligned h = rw (eq-eqb (a % 4) 0 aligned) (go (ltb a 0xF03000) refl)
-    where
-      go : (t : Bool) → ltb a 0xF03000 ≡ t → cond t (registerOf gpu a) (cond (ltb (a - 0xF03000) 4096) (Ram (a - 0xF03000)) (registerOf gpu a)) ≡ registerOf gpu a
-      go true below = refl
-      go false above =
-          let l : 0xF03000 ≤ a = ltb-false a 0xF03000 above in
-          rw (le-ltb (a - 0xF03000) 4096 (omega arith))
-
--- the long behind pc, by the offset of its first word
-module _ (pc at : ℕ) (e : (at + 0xF03000) % 2 ^ 32 ≡ (pc + 2) % 2 ^ 32) (fits : at < 2 ^ 32) (ram : List ℕ) (whole : length ram ≡ 4096) where
-  pub odd-long : at % 2 ≡ 1 → immediateOf gpu ram pc ≡ I.Refused BadCounter
-  unfolding immediateOf
-  odd-long h = rw (odd _ at e fits ram whole h)
-
-  pub long : (at % 2 ≡ 1 → ⊥) → at + 3 < length ram → immediateOf gpu ram pc ≡ I.Long (wordAt ram (at + 2) * 2 ^ 16 + wordAt ram at)
-  unfolding immediateOf
-  long even h =
-      rw (inside _ at e fits ram whole even (omega arith), inside ((pc + 4) % 2 ^ 32) (at + 2) (omega arith) (omega arith) ram whole (λ o. even (omega arith)) (omega arith))
-
-  pub short : length ram ≤ at + 3 → immediateOf gpu ram pc ≡ I.Refused BadCounter
-  unfolding immediateOf
-  short h = go (ltb (at + 1) 4096) refl
-    where
-      no-high : (g : Fetched) → ((f : Fault) → g ≡ Refused f → f ≡ BadCounter) → lowOf g noWord ≡ I.Refused BadCounter
-      no-high (Word low) alone = refl
-      no-high (Refused f) alone = ap I.Refused (alone f refl)
-
-      go : (t : Bool) → ltb (at + 1) 4096 ≡ t → lowOf (fetchOf gpu ram ((pc + 2) % 2 ^ 32)) (fetchOf gpu ram ((pc + 4) % 2 ^ 32)) ≡ I.Refused BadCounter
-      go true below =
-          let l : at + 1 < 4096 = ltb-true (at + 1) 4096 below in
-          rw (outside ((pc + 4) % 2 ^ 32) (at + 2) (omega arith) (omega arith) ram whole (omega arith)) (no-high (fetchOf gpu ram ((pc + 2) % 2 ^ 32)) (counter-alone gpu ram ((pc + 2) % 2 ^ 32)))
-      go false above =
-          let l : 4096 ≤ at + 1 = ltb-false (at + 1) 4096 above in rw (outside _ at e fits ram whole (omega arith))
+        go : (s t : Bool) → eqb (at % 2) 0 ≡ s → ltb at (P .size) ≡ t → immediateOf P ram pc ≡ I.Refused BadCounter
+        go false t es et = rw (word-outside _ at e fits ram whole (λ even l. eqb-false (at % 2) 0 es even))
+        go true false es et = rw (word-outside _ at e fits ram whole (λ even l. omega (arith, l, ltb-false at (P .size) et)))
+        go true true es et =
+            let even = eqb-true (at % 2) 0 es in
+            let l = ltb-true at (P .size) et in
+            rw (word-inside _ at e fits ram whole even l, word-outside ((pc + 4) % 2 ^ 32) (at + 2) (omega arith) (omega (arith, sound .top, sound .flags-below, sound .size-aligned)) ram whole (λ two below. h even (omega (arith, below, sound .size-aligned))))

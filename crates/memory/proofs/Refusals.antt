@@ -8,7 +8,7 @@ use lib.Dec.{eqb, ltb}
 use lib.ListN.{length}
 use Rattle.answers.specs.declared.Fault.{Fault}
 use Rattle.answers.specs.declared.Fault.the-variants.{BadCounter}
-use Rattle.memory.specs.Processor.{Processor}
+use Rattle.processor.specs.Processor.{Processor}
 use Rattle.memory.specs.Memory.{wordAt, noWord, fetchOf}
 use Rattle.memory.specs.declared.Fetched.the-variants.{Word, Refused}
 

@@ -1,2 +1,1 @@
-pub mod Processor
 pub mod Memory

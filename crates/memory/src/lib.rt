@@ -2,9 +2,10 @@
 ghost use mathlib.Core.Path.{_≡_};
 ghost use Prim.Native.Nat.{_+_, _%_, _^_, _≤_, _<_};
 ghost use lib.ListN.{length};
-ghost use Rattle.memory.specs.Processor.{gpu};
-ghost use Rattle.memory.specs.Memory.{wordAt, longAt, putLong, fetchOf, immediateOf, registerOf, placeOf};
+ghost use Rattle.processor.specs.Processor.{gpu};
+ghost use Rattle.memory.specs.Memory.{wordAt, longAt, putLong, fetchOf, immediateOf, registerOf, isMapped, isRegister, placeOf};
 use answers::Fault;
+use processor::Gpu;
 
 // What a fetch gives: the word, or the refusal.
 pub enum Fetched {
@@ -12,8 +13,8 @@ pub enum Fetched {
     Refused(Fault),
 }
 
-// The long of a MOVEI.
-pub enum Immediate {
+// A long that a register is to receive, or the refusal.
+pub enum Received {
     Long(u32),
     Refused(Fault),
 }
@@ -43,20 +44,18 @@ fn word_at(ram: &[u8], at: usize) -> u32
 
 // The address less the base, modulo 2^32: below the size for an address in RAM, and for no other.
 fn offset(a: u32) -> u32
-    ensures { λ r. ⌜ ((r + 0xF03000) % 2 ^ 32 ≡ a) × (r < 2 ^ 32) ⌝ }
+    ensures { λ r. ⌜ ((r + gpu .base) % 2 ^ 32 ≡ a) × (r < 2 ^ 32) ⌝ }
 {
-    std::num::wrapping_sub_u32(a, 0xF03000)
+    std::num::wrapping_sub_u32(a, Gpu::BASE)
 }
 
 pub fn fetch(ram: &[u8], pc: u32) -> Fetched
-    requires { ⌜ length (now ram) ≡ 4096 ⌝ }
+    requires { ⌜ length (now ram) ≡ gpu .size ⌝ }
     ensures { λ r. ⌜ r ≡ fetchOf gpu (now (ram .entry)) pc ⌝ }
 {
     let at = offset(pc) as usize;
-    if at % 2 == 1 {
-        return Fetched::Refused(Fault::BadCounter);
-    }
-    if at + 1 < ram.len() {
+    // Even, and below the size, by one test of its bits: the size is a power of two.
+    if at - at % Gpu::SIZE + at % 2 == 0 {
         Fetched::Word(word_at(ram, at) as u16)
     } else {
         Fetched::Refused(Fault::BadCounter)
@@ -64,20 +63,20 @@ pub fn fetch(ram: &[u8], pc: u32) -> Fetched
 }
 
 // The long of a MOVEI at pc: the low word behind it, then the high word. One test does for both.
-pub fn fetch_long(ram: &[u8], pc: u32) -> Immediate
-    requires { ⌜ length (now ram) ≡ 4096 ⌝ }
+pub fn fetch_long(ram: &[u8], pc: u32) -> Received
+    requires { ⌜ length (now ram) ≡ gpu .size ⌝ }
     ensures { λ r. ⌜ r ≡ immediateOf gpu (now (ram .entry)) pc ⌝ }
 {
     let at = offset(std::num::wrapping_add_u32(pc, 2)) as usize;
     if at % 2 == 1 {
-        return Immediate::Refused(Fault::BadCounter);
+        return Received::Refused(Fault::BadCounter);
     }
     if at + 3 < ram.len() {
         let low = word_at(ram, at);
         let high = word_at(ram, at + 2);
-        Immediate::Long(high * 65536 + low)
+        Received::Long(high * 65536 + low)
     } else {
-        Immediate::Refused(Fault::BadCounter)
+        Received::Refused(Fault::BadCounter)
     }
 }
 
@@ -110,20 +109,39 @@ pub fn locate(a: u32) -> Place
         return Place::Refused(Fault::Misaligned);
     }
     let at = offset(a) as usize;
-    if at < 4096 {
+    if at < Gpu::SIZE {
         Place::Ram(at)
     } else {
         register_at(a)
     }
 }
 
+fn is_mapped(p: Place) -> bool
+    ensures { λ r. ⌜ r ≡ isMapped p ⌝ }
+{
+    match p {
+        Place::Ram(_) => true,
+        Place::Flags => true,
+        Place::Control => true,
+        Place::Divide => true,
+        Place::Refused(_) => false,
+    }
+}
+
+// Whether an address is a built register's.
+pub fn is_register(a: u32) -> bool
+    ensures { λ r. ⌜ r ≡ isRegister gpu a ⌝ }
+{
+    is_mapped(register_at(a))
+}
+
 fn register_at(a: u32) -> Place
     ensures { λ r. ⌜ r ≡ registerOf gpu a ⌝ }
 {
     match a {
-        0xF02100 => Place::Flags,
-        0xF02114 => Place::Control,
-        0xF0211C => Place::Divide,
+        Gpu::FLAGS => Place::Flags,
+        Gpu::CONTROL => Place::Control,
+        Gpu::DIVIDE => Place::Divide,
         _ => Place::Refused(Fault::Unmapped),
     }
 }

@@ -1,7 +1,7 @@
 // Reads what the run program or the loading check printed.
 ghost use mathlib.Core.Path.{_≡_};
 ghost use lib.ListN.{drop};
-ghost use Rattle.parser.specs.Readings.{checkOf, cardOf, readingOf};
+ghost use Rattle.parser.specs.Readings.{checkReading, cardReading, readingOf};
 use scanner::Found;
 use scanner::decimal_line;
 use scanner::hex_line;
@@ -30,7 +30,7 @@ pub fn read(s: &[u8]) -> Reading
 }
 
 fn rest_of_check(s: &[u8], at: usize, answer: u32) -> Reading
-    ensures { λ r. ⌜ r ≡ checkOf answer (drop at (now (s .entry))) ⌝ }
+    ensures { λ r. ⌜ r ≡ checkReading answer (drop at (now (s .entry))) ⌝ }
 {
     let Found::Number(address, end) = hex_line(s, at, b"address=") else {
         return Reading::Damaged(2);
@@ -42,7 +42,7 @@ fn rest_of_check(s: &[u8], at: usize, answer: u32) -> Reading
 }
 
 fn rest_of_card(s: &[u8], at: usize, answer: u32, steps: u32) -> Reading
-    ensures { λ r. ⌜ r ≡ cardOf answer steps (drop at (now (s .entry))) ⌝ }
+    ensures { λ r. ⌜ r ≡ cardReading answer steps (drop at (now (s .entry))) ⌝ }
 {
     let Found::Number(pc, fourth) = hex_line(s, at, b"pc=") else {
         return Reading::Damaged(3);

@@ -8,59 +8,59 @@ use native.Mathlib.Omega.{arith}
 use borrow.Author.Tests.{ltb-true, ltb-false}
 use lib.Dec.{ltb}
 use lib.ListN.{length}
-use Rattle.memory.specs.Processor.{gpu}
+use Rattle.processor.specs.Processor.{Processor}
 use Rattle.rules.specs.declared.Item.{Item}
 use Rattle.rules.specs.declared.Item.the-variants.{Unbuilt}
 use Rattle.rules.specs.Reading.{itemOf, shapeOf, bytesOf, before}
 use Rattle.rules.specs.Scan.{found}
-use Rattle.rules.specs.Check.{first}
+use Rattle.rules.specs.Check.{firstFailing}
 use Rattle.rules.proofs.Booleans.{by}
 use Rattle.reading.proofs.Offsets.{item-at}
 use Rattle.passes.specs.Passes.{testOf}
-use Rattle.passes.proofs.Lowest.{Lowest}
-use Rattle.reading.proofs.Came.{Came, came-first, came-on, came-hit, came-past}
+use Rattle.passes.proofs.Lowest.{LowestFailing}
+use Rattle.reading.proofs.Pass.{PassAt, pass-first, pass-on, pass-hit, pass-past}
 
-module _ (code : List ℕ) where
+module _ (P : Processor) (code : List ℕ) where
   -- the pass came to the offset i, after the item p, and found r to be the lowest broken rule
   pub record Least (i : ℕ) (p : Item) (r : ℕ) : Type 0 where
     pub one : 1 ≤ r
     pub most : r ≤ 6
-    pub came : (rule : ℕ) → 1 ≤ rule → rule < r → Came code Item Unbuilt (before gpu code) (testOf code rule) i p
-    pub broken : r < 6 → found (first gpu code (testOf code r)) ≡ true
+    pub came : (rule : ℕ) → 1 ≤ rule → rule < r → PassAt P code Item Unbuilt (before P code) (testOf P code rule) i p
+    pub broken : r < 6 → found (firstFailing P code (testOf P code r)) ≡ true
 
   pub least-first : Least 0 Unbuilt 6
   least-first =
       record {
         one = omega arith;
         most = omega arith;
-        came = λ rule a b. came-first code Item Unbuilt (before gpu code) (testOf code rule);
+        came = λ rule a b. pass-first P code Item Unbuilt (before P code) (testOf P code rule);
         broken = λ h. absurd (omega (arith, h));
       }
 
-  pub least-on : {i : ℕ} {p : Item} {r s : ℕ} (t : Item) → Least i p r → Lowest (λ rule. testOf code rule (0xF03000 + i) p) 1 r s → i < length code → t ≡ itemOf code i
+  pub least-on : {i : ℕ} {p : Item} {r s : ℕ} (t : Item) → Least i p r → LowestFailing (λ rule. testOf P code rule (P .base + i) p) 1 r s → i < length code → t ≡ itemOf P code i
       → (n : ℕ) → n ≡ bytesOf (shapeOf t) → Least (i + n) t s
   least-on {i} {p} {r} {s} t l w h g n z =
       record {
         one = w .least;
         most = omega (arith, w .most, l .most);
         came =
-            λ rule a b. subst (Came code Item Unbuilt (before gpu code) (testOf code rule) (i + n)) (item-at code i ∙ sym g)
-            (came-on code Item Unbuilt (before gpu code) (testOf code rule) i p t (l .came rule a (omega (arith, b, w .most))) h g n z (w .kept rule a b));
+            λ rule a b. subst (PassAt P code Item Unbuilt (before P code) (testOf P code rule) (i + n)) (item-at P code i ∙ sym g)
+            (pass-on P code Item Unbuilt (before P code) (testOf P code rule) i p t (l .came rule a (omega (arith, b, w .most))) h g n z (w .kept rule a b));
         broken = λ b. by (ltb s r)
             (λ d.
             let c = ltb-true s r d in
-            ap found (came-hit code Item Unbuilt (before gpu code) (testOf code s) i p (l .came s (w .least) c) h (w .broken c)))
+            ap found (pass-hit P code Item Unbuilt (before P code) (testOf P code s) i p (l .came s (w .least) c) h (w .broken c)))
             (λ d.
             let e : r ≡ s = omega (arith, w .most, ltb-false s r d) in
-            subst (λ m. found (first gpu code (testOf code m)) ≡ true) e (l .broken (omega (arith, b, e))));
+            subst (λ m. found (firstFailing P code (testOf P code m)) ≡ true) e (l .broken (omega (arith, b, e))));
       }
 
-  pub least-past : {i : ℕ} {p : Item} {r : ℕ} → Least i p r → length code ≤ i → Lowest (λ rule. not (found (first gpu code (testOf code rule)))) 1 6 r
+  pub least-past : {i : ℕ} {p : Item} {r : ℕ} → Least i p r → length code ≤ i → LowestFailing (λ rule. not (found (firstFailing P code (testOf P code rule)))) 1 6 r
   least-past {i} {p} {r} l h =
       record {
         least = l .one;
         most = l .most;
         kept =
-            λ rule a b. ap not (ap found (came-past code Item Unbuilt (before gpu code) (testOf code rule) i p (l .came rule a b) h));
+            λ rule a b. ap not (ap found (pass-past P code Item Unbuilt (before P code) (testOf P code rule) i p (l .came rule a b) h));
         broken = λ b. ap not (l .broken b);
       }

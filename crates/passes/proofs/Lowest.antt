@@ -10,14 +10,14 @@ use Rattle.rules.proofs.Booleans.{by, no-way}
 use Rattle.passes.specs.Passes.{lowestFrom, lowestOf}
 
 -- r is the lowest of the numbers from a given one on, below a limit, of which the test fails, or the limit
-pub record Lowest (test : ℕ → Bool) (from limit r : ℕ) : Type 0 where
+pub record LowestFailing (test : ℕ → Bool) (from limit r : ℕ) : Type 0 where
   pub least : from ≤ r
   pub most : r ≤ limit
   pub kept : (m : ℕ) → from ≤ m → m < r → test m ≡ true
   pub broken : r < limit → test r ≡ false
 
 module _ (test : ℕ → Bool) where
-  lowest-from : (n from : ℕ) → Lowest test from (from + n) (lowestFrom test from n)
+  lowest-from : (n from : ℕ) → LowestFailing test from (from + n) (lowestFrom test from n)
   unfolding lowestFrom
   lowest-from zero from =
       record {
@@ -28,8 +28,8 @@ module _ (test : ℕ → Bool) where
       }
   lowest-from (suc n) from = go (test from) refl (lowest-from n (from + 1))
     where
-      go : (t : Bool) → test from ≡ t → Lowest test (from + 1) (from + 1 + n) (lowestFrom test (from + 1) n)
-          → Lowest test from (from + suc n) (cond t (lowestFrom test (from + 1) n) from)
+      go : (t : Bool) → test from ≡ t → LowestFailing test (from + 1) (from + 1 + n) (lowestFrom test (from + 1) n)
+          → LowestFailing test from (from + suc n) (cond t (lowestFrom test (from + 1) n) from)
       go true e l =
           record {
             least = omega (arith, l .least);
@@ -48,20 +48,20 @@ module _ (test : ℕ → Bool) where
             broken = λ h. e;
           }
 
-  lower : {from limit r s : ℕ} → Lowest test from limit r → Lowest test from limit s → r < s → ⊥
+  lower : {from limit r s : ℕ} → LowestFailing test from limit r → LowestFailing test from limit s → r < s → ⊥
   lower {from} {limit} {r} {s} l w h = no-way (sym (l .broken (omega (arith, h, w .most))) ∙ w .kept r (l .least) h)
 
-  same : {from limit r s : ℕ} → Lowest test from limit r → Lowest test from limit s → r ≡ s
+  same : {from limit r s : ℕ} → LowestFailing test from limit r → LowestFailing test from limit s → r ≡ s
   same {from} {limit} {r} {s} l w =
       by (ltb r s)
       (λ t. absurd (lower l w (ltb-true r s t)))
       (λ t. by (ltb s r) (λ u. absurd (lower w l (ltb-true s r u))) (λ u. omega (arith, ltb-false r s t, ltb-false s r u)))
 
   -- from the definition, and back
-  pub lowest-of : (limit : ℕ) → 1 ≤ limit → Lowest test 1 limit (lowestOf test limit)
+  pub lowest-of : (limit : ℕ) → 1 ≤ limit → LowestFailing test 1 limit (lowestOf test limit)
   lowest-of limit h =
       let e : 1 + (limit - 1) ≡ limit = omega arith in
-      subst (λ m. Lowest test 1 m (lowestOf test limit)) e (lowest-from (limit - 1) 1)
+      subst (λ m. LowestFailing test 1 m (lowestOf test limit)) e (lowest-from (limit - 1) 1)
 
-  pub lowest-is : {limit r : ℕ} → Lowest test 1 limit r → r ≡ lowestOf test limit
+  pub lowest-is : {limit r : ℕ} → LowestFailing test 1 limit r → r ≡ lowestOf test limit
   lowest-is {limit} {r} l = same l (lowest-of limit (omega (arith, l .least, l .most)))

@@ -3,13 +3,15 @@ ghost use mathlib.Core.Path.{_≡_};
 ghost use mathlib.Core.Bool.{not};
 ghost use Prim.Native.Nat.{_+_, _≤_};
 ghost use lib.ListN.{length};
-ghost use Rattle.memory.specs.Processor.{gpu};
+ghost use Rattle.processor.specs.Processor.{gpu};
 ghost use Rattle.rules.specs.Scan.{found};
-ghost use Rattle.rules.specs.Check.{first};
+ghost use Rattle.rules.specs.Check.{firstFailing};
 ghost use Rattle.reading.specs.Marks.{MarksStarts, MarksTargets};
 ghost use Rattle.reading.specs.Places.{Here};
 ghost use Rattle.passes.specs.Passes.{lowestOf, testOf};
 use crate::tests::obeys;
+use processor::Gpu;
+use reading::MARKS;
 use reading::item_at;
 use reading::shape_of;
 use reading::size;
@@ -20,14 +22,14 @@ use rules::Item;
 fn lowest_here(
     limit: u32,
     code: &[u8],
-    starts: &[bool; 4104],
-    targets: &[bool; 4104],
+    starts: &[bool; MARKS],
+    targets: &[bool; MARKS],
     i: usize,
     p: Item,
     t: Item,
 ) -> u32
-    requires { ⌜ (1 ≤ limit) × Here (now code) i t × MarksStarts (now code) (now starts) × MarksTargets (now code) (now targets) ⌝ }
-    ensures { λ r. ⌜ r ≡ lowestOf (λ rule. testOf (now (code .entry)) rule (0xF03000 + i) p) limit ⌝ }
+    requires { ⌜ (1 ≤ limit) × Here gpu (now code) i t × MarksStarts gpu (now code) (now starts) × MarksTargets gpu (now code) (now targets) ⌝ }
+    ensures { λ r. ⌜ r ≡ lowestOf (λ rule. testOf gpu (now (code .entry)) rule (gpu .base + i) p) limit ⌝ }
 {
     let mut rule: u32 = 1;
     while rule < limit {
@@ -40,9 +42,9 @@ fn lowest_here(
 }
 
 // The lowest of the rules 1 to 5 that is broken anywhere; 6, if none is.
-pub fn lowest_broken(code: &[u8], starts: &[bool; 4104], targets: &[bool; 4104]) -> u32
-    requires { ⌜ (length (now code) ≤ 4096) × MarksStarts (now code) (now starts) × MarksTargets (now code) (now targets) ⌝ }
-    ensures { λ r. ⌜ r ≡ lowestOf (λ rule. not (found (first gpu (now (code .entry)) (testOf (now (code .entry)) rule)))) 6 ⌝ }
+pub fn lowest_broken(code: &[u8], starts: &[bool; MARKS], targets: &[bool; MARKS]) -> u32
+    requires { ⌜ (length (now code) ≤ gpu .size) × MarksStarts gpu (now code) (now starts) × MarksTargets gpu (now code) (now targets) ⌝ }
+    ensures { λ r. ⌜ r ≡ lowestOf (λ rule. not (found (firstFailing gpu (now (code .entry)) (testOf gpu (now (code .entry)) rule)))) 6 ⌝ }
 {
     let mut i: usize = 0;
     let mut p = Item::Unbuilt;
@@ -57,16 +59,16 @@ pub fn lowest_broken(code: &[u8], starts: &[bool; 4104], targets: &[bool; 4104])
 }
 
 // The first address at which one of the rules 1 to 5 is broken.
-pub fn first_broken(rule: u32, code: &[u8], starts: &[bool; 4104], targets: &[bool; 4104]) -> Hit
-    requires { ⌜ (length (now code) ≤ 4096) × MarksStarts (now code) (now starts) × MarksTargets (now code) (now targets) ⌝ }
-    ensures { λ r. ⌜ r ≡ first gpu (now (code .entry)) (testOf (now (code .entry)) rule) ⌝ }
+pub fn first_broken(rule: u32, code: &[u8], starts: &[bool; MARKS], targets: &[bool; MARKS]) -> Hit
+    requires { ⌜ (length (now code) ≤ gpu .size) × MarksStarts gpu (now code) (now starts) × MarksTargets gpu (now code) (now targets) ⌝ }
+    ensures { λ r. ⌜ r ≡ firstFailing gpu (now (code .entry)) (testOf gpu (now (code .entry)) rule) ⌝ }
 {
     let mut i: usize = 0;
     let mut p = Item::Unbuilt;
     while i < code.len() {
         let t = item_at(code, i);
         if !obeys(rule, code, starts, targets, i, p, t) {
-            return Hit::At(0xF03000 + i as u32);
+            return Hit::At(Gpu::BASE + i as u32);
         }
         i += size(shape_of(t));
         p = t;

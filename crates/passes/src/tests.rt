@@ -1,7 +1,7 @@
 // Rules 1 to 5 at one instruction: the item t at offset i, after the item p.
 ghost use mathlib.Core.Path.{_≡_};
 ghost use Prim.Native.Nat.{_+_, _<_};
-ghost use Rattle.memory.specs.Processor.{gpu};
+ghost use Rattle.processor.specs.Processor.{gpu};
 ghost use Rattle.rules.specs.Reading.{jumps, breaksSlot, always};
 ghost use Rattle.rules.specs.Check.{holds, isStart, ok1, ok2, ok3, ok4, ok5};
 ghost use Rattle.rules.specs.Check as check;
@@ -10,6 +10,8 @@ ghost use Rattle.reading.specs.Places.{Here};
 ghost use Rattle.passes.specs.Passes.{testOf};
 use branch::jr_target;
 use field::signed_field;
+use processor::Gpu;
+use reading::MARKS;
 use reading::is_marked;
 use reading::is_target;
 use reading::item_at;
@@ -70,8 +72,8 @@ fn always_jumps(s: Shape) -> bool
 }
 
 // Whether p is a MOVEI into register r of an instruction start.
-fn holds_start(code: &[u8], starts: &[bool; 4104], p: Shape, r: u32) -> bool
-    requires { ⌜ MarksStarts (now code) (now starts) ⌝ }
+fn holds_start(code: &[u8], starts: &[bool; MARKS], p: Shape, r: u32) -> bool
+    requires { ⌜ MarksStarts gpu (now code) (now starts) ⌝ }
     ensures { λ b. ⌜ b ≡ holds p r (isStart gpu (now (code .entry))) ⌝ }
 {
     match p {
@@ -86,8 +88,8 @@ fn holds_start(code: &[u8], starts: &[bool; 4104], p: Shape, r: u32) -> bool
 }
 
 fn obeys1(code: &[u8], i: usize, p: Item, t: Item) -> bool
-    requires { ⌜ Here (now code) i t ⌝ }
-    ensures { λ r. ⌜ r ≡ ok1 gpu (now (code .entry)) (0xF03000 + i) p ⌝ }
+    requires { ⌜ Here gpu (now code) i t ⌝ }
+    ensures { λ r. ⌜ r ≡ ok1 gpu (now (code .entry)) (gpu .base + i) p ⌝ }
 {
     if is_built(t) {
         i + size(shape_of(t)) <= code.len()
@@ -96,16 +98,16 @@ fn obeys1(code: &[u8], i: usize, p: Item, t: Item) -> bool
     }
 }
 
-fn obeys2(code: &[u8], starts: &[bool; 4104], i: usize, p: Item, t: Item) -> bool
-    requires { ⌜ Here (now code) i t × MarksStarts (now code) (now starts) ⌝ }
-    ensures { λ r. ⌜ r ≡ ok2 gpu (now (code .entry)) (0xF03000 + i) p ⌝ }
+fn obeys2(code: &[u8], starts: &[bool; MARKS], i: usize, p: Item, t: Item) -> bool
+    requires { ⌜ Here gpu (now code) i t × MarksStarts gpu (now code) (now starts) ⌝ }
+    ensures { λ r. ⌜ r ≡ ok2 gpu (now (code .entry)) (gpu .base + i) p ⌝ }
 {
     let s = shape_of(t);
     match s {
         Shape::Other => true,
         Shape::Movei(_, _) => true,
         Shape::MovePc => true,
-        Shape::Jr(n, _) => is_marked(starts, jr_target(0xF03000 + i as u32, signed_field(n))),
+        Shape::Jr(n, _) => is_marked(starts, jr_target(Gpu::BASE + i as u32, signed_field(n))),
         Shape::Jump(_, _) => true,
         Shape::Load(_) => true,
         Shape::Store(_) => true,
@@ -114,14 +116,14 @@ fn obeys2(code: &[u8], starts: &[bool; 4104], i: usize, p: Item, t: Item) -> boo
 
 fn obeys3(
     code: &[u8],
-    starts: &[bool; 4104],
-    targets: &[bool; 4104],
+    starts: &[bool; MARKS],
+    targets: &[bool; MARKS],
     i: usize,
     p: Item,
     t: Item,
 ) -> bool
-    requires { ⌜ Here (now code) i t × MarksStarts (now code) (now starts) × MarksTargets (now code) (now targets) ⌝ }
-    ensures { λ r. ⌜ r ≡ ok3 gpu (now (code .entry)) (0xF03000 + i) p ⌝ }
+    requires { ⌜ Here gpu (now code) i t × MarksStarts gpu (now code) (now starts) × MarksTargets gpu (now code) (now targets) ⌝ }
+    ensures { λ r. ⌜ r ≡ ok3 gpu (now (code .entry)) (gpu .base + i) p ⌝ }
 {
     let s = shape_of(t);
     match s {
@@ -140,8 +142,8 @@ fn obeys3(
 }
 
 fn obeys4(code: &[u8], i: usize, p: Item, t: Item) -> bool
-    requires { ⌜ Here (now code) i t ⌝ }
-    ensures { λ r. ⌜ r ≡ ok4 gpu (now (code .entry)) (0xF03000 + i) p ⌝ }
+    requires { ⌜ Here gpu (now code) i t ⌝ }
+    ensures { λ r. ⌜ r ≡ ok4 gpu (now (code .entry)) (gpu .base + i) p ⌝ }
 {
     let s = shape_of(t);
     if !is_jump(s) {
@@ -155,9 +157,9 @@ fn obeys4(code: &[u8], i: usize, p: Item, t: Item) -> bool
     }
 }
 
-fn obeys5(code: &[u8], targets: &[bool; 4104], i: usize, p: Item, t: Item) -> bool
-    requires { ⌜ Here (now code) i t × MarksTargets (now code) (now targets) ⌝ }
-    ensures { λ r. ⌜ r ≡ ok5 gpu (now (code .entry)) (0xF03000 + i) p ⌝ }
+fn obeys5(code: &[u8], targets: &[bool; MARKS], i: usize, p: Item, t: Item) -> bool
+    requires { ⌜ Here gpu (now code) i t × MarksTargets gpu (now code) (now targets) ⌝ }
+    ensures { λ r. ⌜ r ≡ ok5 gpu (now (code .entry)) (gpu .base + i) p ⌝ }
 {
     if i + size(shape_of(t)) != code.len() {
         return true;
@@ -173,14 +175,14 @@ fn obeys5(code: &[u8], targets: &[bool; 4104], i: usize, p: Item, t: Item) -> bo
 pub fn obeys(
     rule: u32,
     code: &[u8],
-    starts: &[bool; 4104],
-    targets: &[bool; 4104],
+    starts: &[bool; MARKS],
+    targets: &[bool; MARKS],
     i: usize,
     p: Item,
     t: Item,
 ) -> bool
-    requires { ⌜ Here (now code) i t × MarksStarts (now code) (now starts) × MarksTargets (now code) (now targets) ⌝ }
-    ensures { λ r. ⌜ r ≡ testOf (now (code .entry)) rule (0xF03000 + i) p ⌝ }
+    requires { ⌜ Here gpu (now code) i t × MarksStarts gpu (now code) (now starts) × MarksTargets gpu (now code) (now targets) ⌝ }
+    ensures { λ r. ⌜ r ≡ testOf gpu (now (code .entry)) rule (gpu .base + i) p ⌝ }
 {
     match rule {
         1 => obeys1(code, i, p, t),

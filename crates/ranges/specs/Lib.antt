@@ -1,2 +1,2 @@
 pub mod Ordered
-pub mod Operands
+pub mod InPlace

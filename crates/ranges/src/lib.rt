@@ -5,14 +5,23 @@
 ghost use mathlib.Core.Path.{_≡_};
 ghost use mathlib.Core.Bool.{_&&_, _||_};
 ghost use Prim.Native.Nat.{min};
-ghost use Rattle.memory.specs.Processor.{gpu};
-ghost use Rattle.rules.specs.Known.{full, unknown, exactly, andRange, sumRange, lessRange, shiftedRange, isExactly};
+ghost use Rattle.processor.specs.Processor.{gpu};
+ghost use Rattle.rules.specs.Known.{full, unknown, exactRange, andRange, sumRange, lessRange, shiftedRange, isExactly};
 ghost use Rattle.rules.specs.Check.{inside, within};
-ghost use Rattle.ranges.specs.Operands.{three, operandsIn, operandsOf, reachOf, rangeAfter, accessOf, forgetsOf};
+ghost use Rattle.ranges.specs.InPlace.{three, usesIn, usesOf, reachOf, rangeAfter, accessOf, forgetsOf};
 ghost use Rattle.ranges.specs.Ordered.{Ordered, AllOrdered};
 use class::Address;
 use class::Class;
+use memory::is_register;
+use processor::Gpu;
 use rules::Range;
+use rules::Shape;
+
+// The highest register content.
+const MOST: u32 = 4294967295;
+
+// The first address behind RAM.
+const TOP: u32 = Gpu::BASE + Gpu::SIZE as u32;
 
 fn both(a: bool, b: bool) -> bool
     ensures { λ r. ⌜ r ≡ (a && b) ⌝ }
@@ -38,14 +47,14 @@ pub fn anything() -> Range
 {
     Range {
         low: 0,
-        high: 4294967295,
+        high: MOST,
         aligned: false,
     }
 }
 
 // 01's "exact value and its own yes or no".
 pub fn exact(v: u32) -> Range
-    ensures { λ r. ⌜ (r ≡ exactly v) × Ordered r ⌝ }
+    ensures { λ r. ⌜ (r ≡ exactRange v) × Ordered r ⌝ }
 {
     Range {
         low: v,
@@ -71,10 +80,10 @@ pub fn sum(x: Range, y: Range) -> Range
     ensures { λ r. ⌜ (r ≡ sumRange x y) × Ordered r ⌝ }
 {
     let aligned = both(x.aligned, y.aligned);
-    if 4294967295 - x.high < y.high {
+    if MOST - x.high < y.high {
         Range {
             low: 0,
-            high: 4294967295,
+            high: MOST,
             aligned,
         }
     } else {
@@ -101,7 +110,7 @@ pub fn less(x: Range, n: u32) -> Range
     } else {
         Range {
             low: 0,
-            high: 4294967295,
+            high: MOST,
             aligned,
         }
     }
@@ -113,7 +122,7 @@ pub fn shifted(n: u32) -> Range
 {
     Range {
         low: 0,
-        high: 4294967295,
+        high: MOST,
         aligned: 2 <= n,
     }
 }
@@ -134,16 +143,7 @@ fn is_exactly(x: Range, n: u32) -> bool
 fn is_inside(from: u32, a: u32) -> bool
     ensures { λ r. ⌜ r ≡ inside gpu from a ⌝ }
 {
-    both(from <= a, a < 0xF04000)
-}
-
-fn is_register(x: Range) -> bool
-    ensures { λ r. ⌜ r ≡ (isExactly x (gpu .flags) || (isExactly x (gpu .control) || isExactly x (gpu .divide))) ⌝ }
-{
-    either(
-        is_exactly(x, 0xF02100),
-        either(is_exactly(x, 0xF02114), is_exactly(x, 0xF0211C)),
-    )
+    both(from <= a, a < TOP)
 }
 
 // Whether an access with an address in x can only reach RAM from an address on, or one built register.
@@ -151,20 +151,21 @@ pub fn allows(from: u32, x: Range) -> bool
     ensures { λ r. ⌜ r ≡ within gpu from x ⌝ }
 {
     let in_ram = both(is_inside(from, x.low), is_inside(from, x.high));
-    both(x.aligned, either(in_ram, is_register(x)))
+    let at_register = both(x.low == x.high, is_register(x.low));
+    both(x.aligned, either(in_ram, at_register))
 }
 
 // The registers whose ranges an instruction asks for, and the register whose range it changes; 32 where there is none.
-pub struct Operands {
+pub struct Uses {
     pub left: u32,
     pub right: u32,
     pub written: u32,
 }
 
-fn of(left: u32, right: u32, written: u32) -> Operands
+fn of(left: u32, right: u32, written: u32) -> Uses
     ensures { λ r. ⌜ r ≡ three left right written ⌝ }
 {
-    Operands {
+    Uses {
         left,
         right,
         written,
@@ -172,8 +173,8 @@ fn of(left: u32, right: u32, written: u32) -> Operands
 }
 
 // Those of an access, and the register that it writes.
-fn operands_in(m: Address, written: u32) -> Operands
-    ensures { λ r. ⌜ r ≡ operandsIn m written ⌝ }
+fn uses_in(m: Address, written: u32) -> Uses
+    ensures { λ r. ⌜ r ≡ usesIn m written ⌝ }
 {
     match m {
         Address::At(r) => of(r, 32, written),
@@ -182,8 +183,8 @@ fn operands_in(m: Address, written: u32) -> Operands
     }
 }
 
-pub fn operands_of(c: Class) -> Operands
-    ensures { λ r. ⌜ r ≡ operandsOf c ⌝ }
+pub fn uses_of(c: Class) -> Uses
+    ensures { λ r. ⌜ r ≡ usesOf c ⌝ }
 {
     match c {
         Class::Quiet => of(32, 32, 32),
@@ -196,8 +197,8 @@ pub fn operands_of(c: Class) -> Operands
         Class::AddQuick(_, d) => of(d, 32, d),
         Class::SubQuick(_, d) => of(d, 32, d),
         Class::Shlq(_, d) => of(32, 32, d),
-        Class::Load(m, d) => operands_in(m, d),
-        Class::Store(m, _) => operands_in(m, 32),
+        Class::Load(m, d) => uses_in(m, d),
+        Class::Store(m, _) => uses_in(m, 32),
         Class::MovePc(d) => of(32, 32, d),
         Class::Jump(_, _) => of(32, 32, 32),
         Class::Jr(_, _) => of(32, 32, 32),
@@ -242,49 +243,33 @@ pub fn range_after(c: Class, v: u32, x: Range, y: Range) -> Range
 
 // Rule 6 of an instruction in code that ends at an address: a LOAD reaches RAM or a built register, a STORE the same but the
 // code.
-pub fn access(end: u32, c: Class, x: Range, y: Range) -> bool
+pub fn access(end: u32, s: Shape, x: Range, y: Range) -> bool
     requires { ⌜ Ordered x × Ordered y ⌝ }
-    ensures { λ r. ⌜ r ≡ accessOf end c x y ⌝ }
+    ensures { λ r. ⌜ r ≡ accessOf gpu end s x y ⌝ }
 {
-    match c {
-        Class::Quiet => true,
-        Class::Write(_) => true,
-        Class::Moveq(_, _) => true,
-        Class::Movei(_) => true,
-        Class::Move(_, _) => true,
-        Class::And(_, _) => true,
-        Class::Add(_, _) => true,
-        Class::AddQuick(_, _) => true,
-        Class::SubQuick(_, _) => true,
-        Class::Shlq(_, _) => true,
-        Class::Load(m, _) => allows(0xF03000, reach(m, x, y)),
-        Class::Store(m, _) => allows(end, reach(m, x, y)),
-        Class::MovePc(_) => true,
-        Class::Jump(_, _) => true,
-        Class::Jr(_, _) => true,
+    match s {
+        Shape::Other => true,
+        Shape::Movei(_, _) => true,
+        Shape::MovePc => true,
+        Shape::Jr(_, _) => true,
+        Shape::Jump(_, _) => true,
+        Shape::Load(m) => allows(Gpu::BASE, reach(m, x, y)),
+        Shape::Store(m) => allows(end, reach(m, x, y)),
     }
 }
 
 // A STORE to the flags may change the bank: nothing is known of the other one.
-pub fn forgets(c: Class, x: Range, y: Range) -> bool
+pub fn forgets(s: Shape, x: Range, y: Range) -> bool
     requires { ⌜ Ordered x × Ordered y ⌝ }
-    ensures { λ r. ⌜ r ≡ forgetsOf c x y ⌝ }
+    ensures { λ r. ⌜ r ≡ forgetsOf gpu s x y ⌝ }
 {
-    match c {
-        Class::Quiet => false,
-        Class::Write(_) => false,
-        Class::Moveq(_, _) => false,
-        Class::Movei(_) => false,
-        Class::Move(_, _) => false,
-        Class::And(_, _) => false,
-        Class::Add(_, _) => false,
-        Class::AddQuick(_, _) => false,
-        Class::SubQuick(_, _) => false,
-        Class::Shlq(_, _) => false,
-        Class::Load(_, _) => false,
-        Class::Store(m, _) => is_exactly(reach(m, x, y), 0xF02100),
-        Class::MovePc(_) => false,
-        Class::Jump(_, _) => false,
-        Class::Jr(_, _) => false,
+    match s {
+        Shape::Other => false,
+        Shape::Movei(_, _) => false,
+        Shape::MovePc => false,
+        Shape::Jr(_, _) => false,
+        Shape::Jump(_, _) => false,
+        Shape::Load(_) => false,
+        Shape::Store(m) => is_exactly(reach(m, x, y), Gpu::FLAGS),
     }
 }

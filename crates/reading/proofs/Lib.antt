@@ -1,4 +1,4 @@
 pub mod From
 pub mod Offsets
 pub mod Marking
-pub mod Came
+pub mod Pass

@@ -3,6 +3,7 @@ ghost use mathlib.Core.Path.{_≡_};
 ghost use Prim.Native.Nat.{_≤_, _<_};
 ghost use lib.ListN.{getD};
 ghost use Rattle.memory.specs.Memory.{wordAt};
+ghost use Rattle.processor.specs.Processor.{gpu};
 ghost use Rattle.rules.specs.Reading.{itemOf, shapeIn, shapeOf, bytesOf};
 use class::Class;
 use class::class_of;
@@ -30,8 +31,8 @@ fn word_at(code: &[u8], i: usize) -> u32
 }
 
 pub fn item_at(code: &[u8], i: usize) -> Item
-    requires { ⌜ i < 8192 ⌝ }
-    ensures { λ r. ⌜ r ≡ itemOf (now (code .entry)) i ⌝ }
+    requires { ⌜ i < gpu .size ⌝ }
+    ensures { λ r. ⌜ r ≡ itemOf gpu (now (code .entry)) i ⌝ }
 {
     let word = word_at(code, i) as u16;
     let long = word_at(code, i + 4) * 65536 + word_at(code, i + 2);

@@ -5,6 +5,7 @@ mod marks;
 pub use items::item_at;
 pub use items::shape_of;
 pub use items::size;
+pub use marks::MARKS;
 pub use marks::is_marked;
 pub use marks::is_target;
 pub use marks::mark_code;

@@ -3,33 +3,37 @@
 ghost use mathlib.Core.Path.{_≡_};
 ghost use Prim.Native.Nat.{_+_, _≤_, _<_};
 ghost use lib.ListN.{length};
-ghost use Rattle.memory.specs.Processor.{gpu};
+ghost use Rattle.processor.specs.Processor.{gpu};
 ghost use Rattle.rules.specs.Check.{isTarget};
-ghost use Rattle.reading.specs.Marks.{markAt, mark, unmarked, MovedInto, Targets, MarksStarts, MarksTargets};
+ghost use Rattle.reading.specs.Marks.{markCount, markAt, mark, unmarked, MovedInto, Targets, MarksStarts, MarksTargets};
 use crate::items::item_at;
 use crate::items::shape_of;
 use crate::items::size;
 use branch::jr_target;
 use field::signed_field;
+use processor::Gpu;
 use rules::Item;
 use rules::Shape;
 
-pub fn is_marked(marks: &[bool; 4104], t: u32) -> bool
-    ensures { λ r. ⌜ r ≡ markAt (now (marks .entry)) t ⌝ }
+// How many addresses have a mark: those of RAM, and a few behind it, where the last instruction may end.
+pub const MARKS: usize = Gpu::SIZE + 8;
+
+pub fn is_marked(marks: &[bool; MARKS], t: u32) -> bool
+    ensures { λ r. ⌜ r ≡ markAt gpu (now (marks .entry)) t ⌝ }
 {
-    if t < 0xF03000 {
+    if t < Gpu::BASE {
         return false;
     }
-    let i = (t - 0xF03000) as usize;
-    if i < 4104 { marks[i] } else { false }
+    let i = (t - Gpu::BASE) as usize;
+    if i < MARKS { marks[i] } else { false }
 }
 
-fn set_mark(marks: &mut [bool; 4104], t: u32)
-    ensures { λ _. ⌜ now (marks .exit) ≡ mark (now (marks .entry)) t ⌝ }
+fn set_mark(marks: &mut [bool; MARKS], t: u32)
+    ensures { λ _. ⌜ now (marks .exit) ≡ mark gpu (now (marks .entry)) t ⌝ }
 {
-    if 0xF03000 <= t {
-        let i = (t - 0xF03000) as usize;
-        if i < 4104 {
+    if Gpu::BASE <= t {
+        let i = (t - Gpu::BASE) as usize;
+        if i < MARKS {
             marks[i] = true;
         }
     }
@@ -37,7 +41,7 @@ fn set_mark(marks: &mut [bool; 4104], t: u32)
 
 // The value of a MOVEI into the register of a JUMP; 0, which is no address of the code, where there is none.
 fn moved_into(p: Shape, r: u32) -> u32
-    ensures { λ v. ⌜ MovedInto p r v ⌝ }
+    ensures { λ v. ⌜ MovedInto gpu p r v ⌝ }
 {
     match p {
         Shape::Other => 0,
@@ -52,7 +56,7 @@ fn moved_into(p: Shape, r: u32) -> u32
 
 // The target of an instruction of the shape s at a, after one of the shape p; 0 where it has none.
 fn target(a: u32, p: Shape, s: Shape) -> u32
-    ensures { λ r. ⌜ Targets a p s r ⌝ }
+    ensures { λ r. ⌜ Targets gpu a p s r ⌝ }
 {
     match s {
         Shape::Other => 0,
@@ -66,14 +70,14 @@ fn target(a: u32, p: Shape, s: Shape) -> u32
 }
 
 // Marks the instruction starts and the targets in one reading of the code. The marks that are lent are clear.
-pub fn mark_code(code: &[u8], starts: &mut [bool; 4104], targets: &mut [bool; 4104])
-    requires { ⌜ (length (now code) ≤ 4096) × (now starts ≡ unmarked) × (now targets ≡ unmarked) ⌝ }
-    ensures { λ _. ⌜ MarksStarts (now (code .entry)) (now (starts .exit)) × MarksTargets (now (code .entry)) (now (targets .exit)) ⌝ }
+pub fn mark_code(code: &[u8], starts: &mut [bool; MARKS], targets: &mut [bool; MARKS])
+    requires { ⌜ (length (now code) ≤ gpu .size) × (now starts ≡ unmarked gpu) × (now targets ≡ unmarked gpu) ⌝ }
+    ensures { λ _. ⌜ MarksStarts gpu (now (code .entry)) (now (starts .exit)) × MarksTargets gpu (now (code .entry)) (now (targets .exit)) ⌝ }
 {
     let mut i: usize = 0;
     let mut p = Item::Unbuilt;
     while i < code.len() {
-        let a = 0xF03000 + i as u32;
+        let a = Gpu::BASE + i as u32;
         let t = item_at(code, i);
         let s = shape_of(t);
         set_mark(starts, a);
@@ -84,9 +88,9 @@ pub fn mark_code(code: &[u8], starts: &mut [bool; 4104], targets: &mut [bool; 41
 }
 
 // Whether the instruction at an offset is a target.
-pub fn is_target(code: &[u8], targets: &[bool; 4104], i: usize) -> bool
-    requires { ⌜ (i < 4104) × MarksTargets (now code) (now targets) ⌝ }
-    ensures { λ r. ⌜ r ≡ isTarget gpu (now (code .entry)) (0xF03000 + i) ⌝ }
+pub fn is_target(code: &[u8], targets: &[bool; MARKS], i: usize) -> bool
+    requires { ⌜ (i < markCount gpu) × MarksTargets gpu (now code) (now targets) ⌝ }
+    ensures { λ r. ⌜ r ≡ isTarget gpu (now (code .entry)) (gpu .base + i) ⌝ }
 {
-    is_marked(targets, 0xF03000 + i as u32)
+    is_marked(targets, Gpu::BASE + i as u32)
 }

@@ -1,19 +1,16 @@
 -- An instruction's class and its effect agree: what the rules say that it writes, reads or reaches is what a step does.
 -- Assumes nothing.
-use Prim.Native.Nat.{ℕ, _+_, _*_, _-_, _%_, _^_, _≤_}
-use mathlib.Core.Path.{_≡_, refl, subst, ap, _∙_}
-use mathlib.Core.Bool.{Bool, true, false, cond}
+use Prim.Native.Nat.{ℕ, _+_, _*_, _-_, _/_, _%_, _^_, _≤_}
+use mathlib.Core.Path.{_≡_, refl, sym, subst, ap, _∙_}
 use mathlib.Core.List.{List}
 use native.Mathlib.Omega.{arith}
 use lib.Bits.{bitAnd}
-use lib.Dec.{eqb}
 use lib.ListN.{getD}
+use Rattle.isa.specs.declared.Decoded.{Decoded}
 use Rattle.isa.specs.declared.Decoded.the-variants as D
 use Rattle.field.proofs.Bounds.{quick-most}
 use Rattle.field.specs.Fields.{quickOf, signedFieldOf}
 use Rattle.isa.specs.Table.{instructions}
-use Rattle.isa.specs.Words as words
-use Rattle.isa.specs.Words.{noInstruction, among, instructionAt, decodedAt}
 use Rattle.branch.specs.Jump.{jrTargetOf}
 use Rattle.shifter.specs.Shift.{leftOf}
 use Rattle.class.specs.declared.Address.{Address}
@@ -26,6 +23,7 @@ use Rattle.effect.specs.declared.Operands.{Operands}
 use Rattle.effect.specs.declared.Effect.{Effect}
 use Rattle.effect.specs.declared.Effect.the-variants as E
 use Rattle.effect.proofs.EffectWidths.{Each, _⊗_, found}
+use Rattle.processor.specs.Processor.{Processor, Sound}
 use Rattle.rules.specs.declared.Item.the-variants.{Built}
 use Rattle.rules.specs.Reading.{itemIn}
 
@@ -47,41 +45,31 @@ Silent (E.Jump c t) = ⊥
 Silent (E.Load d address) = ⊥
 Silent (E.Store address n) = ⊥
 
--- register r of the active bank is written, and nothing else of it
-abbrev pub Writes : ℕ → Effect → Type 0
-Writes r (E.Refused f) = ⊥
-Writes r E.Nothing = ⊥
-Writes r (E.Write d x) = d % 32 ≡ r
-Writes r (E.Keep d n) = d % 32 ≡ r
-Writes r (E.Flags f) = ⊥
-Writes r (E.Divide d q) = d % 32 ≡ r
-Writes r (E.Product x) = ⊥
-Writes r (E.Accumulate n) = ⊥
-Writes r (E.ToOther d n) = ⊥
-Writes r (E.FromOther s d) = d % 32 ≡ r
-Writes r (E.Immediate d) = ⊥
-Writes r (E.Counter d) = ⊥
-Writes r (E.Jump c t) = ⊥
-Writes r (E.Load d address) = ⊥
-Writes r (E.Store address n) = ⊥
+-- register r of the active bank gets a value of which Q holds, and nothing else of it is written; of what comes from the other bank
+-- nothing is known
+abbrev pub Gives : ℕ → (ℕ → Type 0) → Effect → Type 0
+Gives r Q (E.Refused f) = ⊥
+Gives r Q E.Nothing = ⊥
+Gives r Q (E.Write d x) = (d % 32 ≡ r) × Q (x .value)
+Gives r Q (E.Keep d n) = (d % 32 ≡ r) × Q n
+Gives r Q (E.Flags f) = ⊥
+Gives r Q (E.Divide d q) = (d % 32 ≡ r) × Q (q .quotient)
+Gives r Q (E.Product x) = ⊥
+Gives r Q (E.Accumulate n) = ⊥
+Gives r Q (E.ToOther d n) = ⊥
+Gives r Q (E.FromOther s d) = (d % 32 ≡ r) × ((n : ℕ) → Q n)
+Gives r Q (E.Immediate d) = ⊥
+Gives r Q (E.Counter d) = ⊥
+Gives r Q (E.Jump c t) = ⊥
+Gives r Q (E.Load d address) = ⊥
+Gives r Q (E.Store address n) = ⊥
 
--- register r of the active bank gets the value v
-abbrev pub Gives : ℕ → ℕ → Effect → Type 0
-Gives r v (E.Refused f) = ⊥
-Gives r v E.Nothing = ⊥
-Gives r v (E.Write d x) = (d % 32 ≡ r) × (x .value ≡ v)
-Gives r v (E.Keep d n) = (d % 32 ≡ r) × (n ≡ v)
-Gives r v (E.Flags f) = ⊥
-Gives r v (E.Divide d q) = ⊥
-Gives r v (E.Product x) = ⊥
-Gives r v (E.Accumulate n) = ⊥
-Gives r v (E.ToOther d n) = ⊥
-Gives r v (E.FromOther s d) = ⊥
-Gives r v (E.Immediate d) = ⊥
-Gives r v (E.Counter d) = ⊥
-Gives r v (E.Jump c t) = ⊥
-Gives r v (E.Load d address) = ⊥
-Gives r v (E.Store address n) = ⊥
+-- anything, or one value
+abbrev pub Any : ℕ → Type 0
+Any n = Unit {0}
+
+abbrev pub One : ℕ → ℕ → Type 0
+One v n = n ≡ v
 
 module _ (a : List ℕ) (pc : ℕ) where
   -- the address that an access reaches, from the active bank
@@ -92,15 +80,15 @@ module _ (a : List ℕ) (pc : ℕ) where
 
   abbrev pub Agrees : Class → Effect → Type 0
   Agrees C.Quiet e = Silent e
-  Agrees (C.Write d) e = Writes d e
-  Agrees (C.Moveq n d) e = Gives d n e
+  Agrees (C.Write d) e = Gives d Any e
+  Agrees (C.Moveq n d) e = Gives d (One n) e
   Agrees (C.Movei d) e = (d % 32 ≡ d) × (e ≡ E.Immediate d)
-  Agrees (C.Move s d) e = Gives d (getD a s 0) e
-  Agrees (C.And s d) e = Gives d (bitAnd (getD a d 0) (getD a s 0)) e
-  Agrees (C.Add s d) e = Gives d ((getD a d 0 + getD a s 0) % 2 ^ 32) e
-  Agrees (C.AddQuick n d) e = Gives d ((getD a d 0 + n) % 2 ^ 32) e
-  Agrees (C.SubQuick n d) e = (n ≤ 32) × Gives d ((getD a d 0 + 2 ^ 32 - n) % 2 ^ 32) e
-  Agrees (C.Shlq n d) e = Gives d (leftOf (getD a d 0) n .value) e
+  Agrees (C.Move s d) e = Gives d (One (getD a s 0)) e
+  Agrees (C.And s d) e = Gives d (One (bitAnd (getD a d 0) (getD a s 0))) e
+  Agrees (C.Add s d) e = Gives d (One ((getD a d 0 + getD a s 0) % 2 ^ 32)) e
+  Agrees (C.AddQuick n d) e = Gives d (One ((getD a d 0 + n) % 2 ^ 32)) e
+  Agrees (C.SubQuick n d) e = (n ≤ 32) × Gives d (One ((getD a d 0 + 2 ^ 32 - n) % 2 ^ 32)) e
+  Agrees (C.Shlq n d) e = Gives d (One (leftOf (getD a d 0) n .value)) e
   Agrees (C.Load m d) e = (d % 32 ≡ d) × (e ≡ E.Load d (reached m))
   Agrees (C.Store m d) e = e ≡ E.Store (reached m) (getD a d 0)
   Agrees (C.MovePc d) e = (d % 32 ≡ d) × (e ≡ E.Counter d)
@@ -113,43 +101,43 @@ module _ (a : List ℕ) (s d : ℕ) (x : Operands) (es : x .s ≡ getD a s 0) (e
   each : Each (λ i. Agrees a (x .pc) (classOf i) (effectOf i a x)) (instructions s d)
   each =
       (small, ap (λ n. n % 2 ^ 32) (omega (arith, es, ed)))
-      ⊗ small
+      ⊗ (small, tt)
       ⊗ (small, ap (λ n. (n + quickOf s) % 2 ^ 32) ed)
       ⊗ (small, ap (λ n. (n + quickOf s) % 2 ^ 32) ed)
-      ⊗ small
-      ⊗ small
+      ⊗ (small, tt)
+      ⊗ (small, tt)
       ⊗ (quick-most s ⊗ (small, ap (λ n. (n + 2 ^ 32 - quickOf s) % 2 ^ 32) ed))
       ⊗ (quick-most s ⊗ (small, ap (λ n. (n + 2 ^ 32 - quickOf s) % 2 ^ 32) ed))
-      ⊗ small
+      ⊗ (small, tt)
       ⊗ (small, ap (λ n. bitAnd n (x .s)) ed ∙ ap (bitAnd (getD a d 0)) es)
-      ⊗ small
-      ⊗ small
-      ⊗ small
+      ⊗ (small, tt)
+      ⊗ (small, tt)
+      ⊗ (small, tt)
       ⊗ tt
-      ⊗ small
-      ⊗ small
-      ⊗ small
-      ⊗ small
+      ⊗ (small, tt)
+      ⊗ (small, tt)
+      ⊗ (small, tt)
+      ⊗ (small, tt)
       ⊗ tt
-      ⊗ small
+      ⊗ (small, tt)
       ⊗ tt
-      ⊗ small
-      ⊗ small
-      ⊗ small
+      ⊗ (small, tt)
+      ⊗ (small, tt)
+      ⊗ (small, tt)
       ⊗ (small, ap (λ n. leftOf n (quickOf s) .value) ed)
-      ⊗ small
-      ⊗ small
-      ⊗ small
-      ⊗ small
-      ⊗ small
+      ⊗ (small, tt)
+      ⊗ (small, tt)
+      ⊗ (small, tt)
+      ⊗ (small, tt)
+      ⊗ (small, tt)
       ⊗ tt
       ⊗ tt
-      ⊗ small
-      ⊗ small
+      ⊗ (small, tt)
+      ⊗ (small, tt)
       ⊗ (small, es)
       ⊗ (small, refl)
       ⊗ tt
-      ⊗ small
+      ⊗ (small, λ n. tt)
       ⊗ (small, refl)
       ⊗ (small, ap (E.Load d) es)
       ⊗ (small, refl)
@@ -160,23 +148,25 @@ module _ (a : List ℕ) (s d : ℕ) (x : Operands) (es : x .s ≡ getD a s 0) (e
       ⊗ (small, refl)
       ⊗ ap (E.Jump d) es
       ⊗ refl
-      ⊗ small
-      ⊗ small
+      ⊗ (small, tt)
+      ⊗ (small, tt)
       ⊗ tt
       ⊗ (small, ap (λ n. E.Load d (addressOf a 14 n)) es)
       ⊗ (small, ap (λ n. E.Load d (addressOf a 15 n)) es)
       ⊗ ap (λ n. E.Store (addressOf a 14 n) (x .d)) es ∙ ap (E.Store (addressOf a 14 (getD a s 0))) ed
       ⊗ ap (λ n. E.Store (addressOf a 15 n) (x .d)) es ∙ ap (E.Store (addressOf a 15 (getD a s 0))) ed
-      ⊗ small
+      ⊗ (small, tt)
       ⊗ tt
 
-  -- what stands at an address is of a class: its effect agrees with it, and the long behind it is the one that it has
-  pub agrees : (op long : ℕ) (c : Class) (v : ℕ) → itemIn (decodedAt op s d) long ≡ Built c v → Agrees a (x .pc) c (effectIn (decodedAt op s d) a x) × (long ≡ v)
-  unfolding decodedAt instructionAt
-  agrees op long c v e = go (words.built op (eqb s 0) (eqb d 0)) e
+-- what stands at an address is of a class: its effect agrees with it, and the long behind it is the one that it has
+module _ (P : Processor) (sound : Sound P) (a : List ℕ) (w : ℕ) (x : Operands) (es : x .s ≡ getD a (w / 32 % 32) 0) (ed : x .d ≡ getD a (w % 32) 0) where
+  pub agrees : (long : ℕ) (c : Class) (v : ℕ) → itemIn (P .decode w) long ≡ Built c v → Agrees a (x .pc) c (effectIn (P .decode w) a x) × (long ≡ v)
+  agrees long c v = go (P .decode w) refl
     where
-      go : (t : Bool) → itemIn (cond t (D.Built (among op (instructions s d))) noInstruction) long ≡ Built c v → Agrees a (x .pc) c (effectIn (cond t (D.Built (among op (instructions s d))) noInstruction) a x) × (long ≡ v)
-      go true e =
-          let same : classOf (among op (instructions s d)) ≡ c = cc in
-          (subst (λ k. Agrees a (x .pc) k (effectOf (among op (instructions s d)) a x)) same (found (λ i. Agrees a (x .pc) (classOf i) (effectOf i a x)) op tt (instructions s d) each), cc)
-      go false e = let z : _≡_ {A = ℕ} 0 1 = cc in absurd (omega arith)
+      go : (t : Decoded) → P .decode w ≡ t → itemIn t long ≡ Built c v → Agrees a (x .pc) c (effectIn t a x) × (long ≡ v)
+      go (D.Built i) q e =
+          let l = sound .decodes w i q in
+          let h = found (λ j. Agrees a (x .pc) (classOf j) (effectOf j a x)) (l .opcode) tt (instructions (w / 32 % 32) (w % 32)) (each a (w / 32 % 32) (w % 32) x es ed (omega arith)) in
+          let same : classOf i ≡ c = cc in
+          (subst (λ k. Agrees a (x .pc) k (effectOf i a x)) same (subst (λ j. Agrees a (x .pc) (classOf j) (effectOf j a x)) (sym (l .is)) h), cc)
+      go (D.Refused f) q e = let z : _≡_ {A = ℕ} 0 1 = cc in absurd (omega arith)

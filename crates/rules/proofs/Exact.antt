@@ -9,7 +9,7 @@ use native.Mathlib.Omega.{arith}
 use lib.Dec.{eqb, ltb, leb}
 use lib.ListN.{length, take}
 use borrow.Author.Tests.{eqb-true, eqb-false, eq-eqb, leb-true, le-leb, ltb-true, ltb-false}
-use Rattle.memory.specs.Processor.{Processor}
+use Rattle.processor.specs.Processor.{Processor}
 use Rattle.rules.specs.declared.Range.{Range}
 use Rattle.rules.specs.declared.Verdict.{Verdict}
 use Rattle.rules.specs.declared.Verdict.the-variants.{Admitted, RamLength, CodeLength, Broken}
@@ -150,5 +150,5 @@ module _ (P : Processor) (ram : List ℕ) (C : ℕ) where
   admits p R (Broken r a) m = absurd (m .1 .lowest .broken (R r a))
 
   -- "admits exactly the programs that obey the six rules"
-  pub exactly : (checkOf P ram C ≡ Admitted) ↔ (IsProgram P ram C × Rules P code)
-  exactly = (λ e. subst (Means P ram C) e told, λ h. admits (h .0) (h .1) (checkOf P ram C) told)
+  pub admits-exactly : (checkOf P ram C ≡ Admitted) ↔ (IsProgram P ram C × Rules P code)
+  admits-exactly = (λ e. subst (Means P ram C) e told, λ h. admits (h .0) (h .1) (checkOf P ram C) told)

@@ -3,41 +3,38 @@
 -- Assumes nothing.
 use Prim.Native.Nat.{ℕ, zero, suc, _^_, _≤_, _<_}
 use mathlib.Core.Path.{_≡_, refl}
-use mathlib.Core.Bool.{Bool, true, false, _&&_}
+use mathlib.Core.Bool.{Bool, true, _&&_}
 use mathlib.Core.List.{List, [], _∷_, _++_}
 use native.Mathlib.Omega.{arith}
 use lib.Dec.{ltb}
-use lib.ListN.{length, getD, take, replicate}
+use lib.ListN.{getD, take, replicate}
 use borrow.Author.Tests.{ltb-true}
 use Rattle.isa.specs.Words.{instructionAt, decodedAt}
-use Rattle.memory.specs.Processor.{gpu}
-use Rattle.memory.proofs.Places.{gpu-sound}
-use Rattle.state.specs.declared.Pending.the-variants.{None}
-use Rattle.state.specs.declared.Activity.the-variants.{Running}
+use Rattle.processor.specs.Processor.{gpu}
+use Rattle.processor.proofs.Instances.{gpu-sound}
+use Rattle.core.specs.Machine.{Memory, lent}
+use Rattle.core.specs.Types.{IsBank, IsMemory}
 use Rattle.machine.specs.declared.State.{State}
+use Rattle.machine.specs.State.{startState, IsState}
 use Rattle.machine.specs.Run.{budgetLimit}
-use Rattle.machine.specs.Types.{IsBytes, IsBank, IsState}
 use Rattle.rules.specs.declared.Verdict.the-variants.{Admitted, Broken}
 use Rattle.rules.specs.declared.Rule.the-variants.{Ending}
 use Rattle.rules.specs.Reading.{itemOf, itemAt}
 use Rattle.rules.specs.Scan.{scan, firstBad}
 use Rattle.rules.specs.Known.{transferOf}
 use Rattle.rules.specs.Check.{isStart, isTarget, learn, ok1, ok2, ok3, ok4, ok5, ok6, brokenIn, rulesOf, checkOf}
-use Rattle.rules.specs.Safety.{Apart, Begins, Loaded, Safe, Demand3, Tells, GoesOn}
+use Rattle.rules.specs.Safety.{Begins, Loaded, Safe, Demand3, Tells, GoesOn}
 use Rattle.rules.proofs.Booleans.{and-l, and-r}
 use Rattle.rules.proofs.Demand.{demand3, tells, goes-on}
 
-pub gpu-apart : Apart gpu
-gpu-apart = record { flags-below = omega arith; control-below = omega arith; divide-below = omega arith }
-
 pub gpu-demand3 : Demand3 gpu
-gpu-demand3 = demand3 gpu gpu-sound gpu-apart
+gpu-demand3 = demand3 gpu gpu-sound
 
 pub gpu-tells : Tells gpu
 gpu-tells = tells gpu
 
 pub gpu-goes-on : GoesOn gpu
-gpu-goes-on = goes-on gpu gpu-sound gpu-apart
+gpu-goes-on = goes-on gpu gpu-sound
 
 -- 01's "whole card": MOVEI #F02114h,R1; MOVEQ #0,R0; STORE R0,(R1); NOP; JR to itself; NOP
 pub card : List ℕ
@@ -81,7 +78,7 @@ indexing-admitted = verdicts .4
 -- every run of a program from a state that begins is safe
 abbrev pub AlwaysSafe : List ℕ → ℕ → Type 0
 AlwaysSafe program C =
-    (ram : List ℕ) (s : State) → Loaded gpu program C ram s → (budget : ℕ) → budget ≤ budgetLimit → Safe gpu (take C program) ram s budget
+    (memory : Memory) (s : State) → Loaded gpu program C memory s → (budget : ℕ) → budget ≤ budgetLimit → Safe gpu (take C program) memory s budget
 
 pub card-safe : AlwaysSafe card 16
 card-safe = gpu-demand3 .safely card 16 card-admitted
@@ -95,10 +92,8 @@ switching-safe = gpu-demand3 .safely switching 28 switching-admitted
 pub indexing-safe : AlwaysSafe indexing 20
 indexing-safe = gpu-demand3 .safely indexing 20 indexing-admitted
 
--- "starts at F03000h, running, all else zero"
 abbrev start : State
-start =
-    record { bank0 = replicate 32 0; bank1 = replicate 32 0; second = false; z = false; n = false; c = false; pc = gpu .base; pending = None; remainder = 0; mode = false; accumulator = 0; activity = Running }
+start = startState gpu
 
 unfoldable pub below : ℕ → List ℕ → Bool
 below n [] = true
@@ -110,9 +105,9 @@ below-at n z [] e i = z
 below-at n z (x ∷ l) e zero = ltb-true x n (and-l (ltb x n) (below n l) e)
 below-at n z (x ∷ l) e (suc i) = below-at n z l (and-r (ltb x n) (below n l) e) i
 
-pub card-ram : IsBytes card
+pub card-memory : IsMemory (gpu .size) (lent card)
 unfolding card below
-card-ram = record { bytes = below-at 256 (omega arith) card refl }
+card-memory = record { whole = refl; bytes = record { ram-bytes = record { bytes = below-at 256 (omega arith) card refl } } }
 
 zero-bank : IsBank (replicate 32 0)
 unfolding below
@@ -123,20 +118,22 @@ start-state =
     record {
       first-bank = zero-bank;
       second-bank = zero-bank;
-      pc-word = omega arith;
-      target-word = tt;
-      remainder-word = omega arith;
-      accumulator-word = omega arith;
+      core-typed =
+          record {
+            bank-bit = omega arith;
+            flag-bits = record { z-bit = omega arith; n-bit = omega arith; c-bit = omega arith };
+            pc-word = omega arith;
+            pending-word = tt;
+            remainder-word = omega arith;
+            mode-bit = omega arith;
+            accumulator-word = omega arith;
+          };
     }
 
 start-begins : Begins gpu start
 start-begins = record { runs = refl; at-first = refl; none-pending = refl }
 
-pub card-length : length card ≡ 4096
-unfolding card
-card-length = refl
-
 -- no assumption is left but the budget's limit
-pub card-safe-from-start : (budget : ℕ) → budget ≤ budgetLimit → Safe gpu (take 16 card) card start budget
+pub card-safe-from-start : (budget : ℕ) → budget ≤ budgetLimit → Safe gpu (take 16 card) (lent card) start budget
 card-safe-from-start =
-    card-safe card start (record { whole-ram = card-length; is-ram = card-ram; same-code = refl; is-state = start-state; begins = start-begins })
+    card-safe (lent card) start (record { is-memory = card-memory; same-code = refl; is-state = start-state; begins = start-begins })

@@ -7,10 +7,10 @@ use native.Mathlib.Omega.{arith}
 use lib.ListN.{length, take}
 use lib.Seq.{getD-take, take-set-le}
 use borrow.Author.Tests.{ne-eqb, lt-ltb, le-ltb}
-use Rattle.memory.specs.Processor.{Processor, Sound}
+use Rattle.processor.specs.Processor.{Processor, Sound}
 use Rattle.memory.specs.Memory.{wordAt, putLong, fetchOf, immediateOf}
 use Rattle.memory.specs.declared.Fetched.the-variants as F
-use Rattle.memory.specs.declared.Immediate.the-variants as I
+use Rattle.memory.specs.declared.Received.the-variants as I
 use Rattle.rules.specs.declared.Shape.{Shape}
 use Rattle.rules.specs.declared.Shape.the-variants.{Other, Movei, MovePc, Jr, Jump, Load, Store}
 use Rattle.rules.specs.Reading.{bytesOf, shapeAt, Reads, first, next}

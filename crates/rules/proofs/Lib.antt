@@ -10,4 +10,3 @@ pub mod Access
 pub mod Step
 pub mod Demand
 pub mod Examples
-pub mod KnownRows

@@ -12,7 +12,7 @@ use lib.Bits.{bitAnd, and-le-l, and-le-r, and-mod, and-zero-l, and-zero-r}
 use borrow.Author.Tests.{ltb-false, leb-true, eqb-true}
 use Rattle.shifter.specs.Shift.{leftOf}
 use Rattle.rules.specs.declared.Range.{Range}
-use Rattle.rules.specs.Known.{most, full, unknown, rangeAt, exactly, andRange, sumRange, lessRange, shiftedRange}
+use Rattle.rules.specs.Known.{most, full, unknown, rangeAt, exactRange, andRange, sumRange, lessRange, shiftedRange}
 use Rattle.rules.proofs.Booleans.{no-way, and-l, and-r, or-cases}
 
 pub record In (x : Range) (v : ℕ) : Type 0 where
@@ -28,7 +28,7 @@ pub data Fits : List Range → List ℕ → Type 0 where
 in-full : {v : ℕ} → v < 2 ^ 32 → In full v
 in-full h = record { low = omega arith; high = omega arith; multiple = λ e. no-way e }
 
-pub in-exactly : (v : ℕ) → In (exactly v) v
+pub in-exactly : (v : ℕ) → In (exactRange v) v
 in-exactly v = record { low = omega arith; high = omega arith; multiple = λ e. eqb-true (v % 4) 0 e }
 
 pub fits-at : {k : List Range} {l : List ℕ} → Fits k l → (r : ℕ) → In (rangeAt k r) (getD l r 0)
@@ -46,14 +46,14 @@ fits-length none = refl
 fits-length (one h f) = ap suc (fits-length f)
 
 -- a register that gets a value of which nothing is known
-written : (n : ℕ) {k : List Range} {l : List ℕ} → Fits k l → (d v : ℕ) → Fits (replicate n full) (set l d v) → Fits (set k d full) (set l d v)
-written n none d v w = none
-written zero (one {v = x} {l = l} h f) d v w = let e = fits-length w ∙ length-set (x ∷ l) d v in absurd (omega arith)
-written (suc n) (one h f) zero v (one i w) = one i f
-written (suc n) (one h f) (suc d) v (one i w) = one h (written n f d v w)
+fits-write-all : (n : ℕ) {k : List Range} {l : List ℕ} → Fits k l → (d v : ℕ) → Fits (replicate n full) (set l d v) → Fits (set k d full) (set l d v)
+fits-write-all n none d v w = none
+fits-write-all zero (one {v = x} {l = l} h f) d v w = let e = fits-length w ∙ length-set (x ∷ l) d v in absurd (omega arith)
+fits-write-all (suc n) (one h f) zero v (one i w) = one i f
+fits-write-all (suc n) (one h f) (suc d) v (one i w) = one h (fits-write-all n f d v w)
 
 pub fits-write : {k : List Range} {l : List ℕ} → Fits k l → (d v : ℕ) → Fits unknown (set l d v) → Fits (set k d full) (set l d v)
-fits-write = written 32
+fits-write = fits-write-all 32
 
 wide-all : (n : ℕ) (l : List ℕ) → length l ≡ n → ((i : ℕ) → getD l i 0 < 2 ^ 32) → Fits (replicate n full) l
 wide-all zero [] e h = none

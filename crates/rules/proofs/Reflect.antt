@@ -6,19 +6,19 @@ use mathlib.Core.Bool.{Bool, true, false, not, cond, _&&_, _||_}
 use mathlib.Core.List.{List}
 use lib.Dec.{eqb, ltb, leb}
 use borrow.Author.Tests.{eqb-true, eq-eqb, ltb-true, lt-ltb, leb-true, le-leb, not-false}
-use Rattle.class.specs.declared.Address.{Address}
 use Rattle.field.specs.Fields.{signedFieldOf}
 use Rattle.branch.specs.Jump.{jrTargetOf}
-use Rattle.memory.specs.Processor.{Processor}
+use Rattle.processor.specs.Processor.{Processor}
+use Rattle.memory.specs.Memory.{isRegister}
 use Rattle.rules.specs.declared.Range.{Range}
 use Rattle.rules.specs.declared.Item.{Item}
 use Rattle.rules.specs.declared.Item.the-variants.{Unbuilt, Built}
 use Rattle.rules.specs.declared.Shape.{Shape}
 use Rattle.rules.specs.declared.Shape.the-variants.{Other, Movei, MovePc, Jr, Jump, Load, Store}
 use Rattle.rules.specs.Reading.{jumps, breaksSlot, always, shapeOf, endOf, itemAt, shapeAt, after, before, Reads, first, next}
-use Rattle.rules.specs.Known.{unknown, addressRange, isExactly, transferOf}
+use Rattle.rules.specs.Known.{unknown, addressRange, transferOf}
 use Rattle.rules.specs.Check.{isBuilt, holds, leads, inside, within, isStart, isTarget, learn, jrOk, jumpOk, accessOk, ok1, ok2, ok3, ok4, ok5, ok6}
-use Rattle.rules.specs.Rules.{IsStart, Leads, by-jr, by-jump, IsTarget, Knows, at-first, at-target, onward, Inside, Place, in-ram, at-flags, at-control, at-divide, Reaches, Rule1, Rule2, Rule3, Rule4, Rule5, Rule6}
+use Rattle.rules.specs.Rules.{IsStart, Leads, by-jr, by-jump, IsTarget, Knows, at-first, at-target, onward, Inside, Accessible, in-ram, one-register, Reaches, Rule1, Rule2, Rule3, Rule4, Rule5, Rule6}
 use Rattle.rules.proofs.Booleans.{by, no-way, and-l, and-r, and-i, or-cases, or-l, or-r, not-i, not-of}
 use Rattle.rules.proofs.Scan.{finds, is-found}
 
@@ -42,15 +42,6 @@ holds-of (Store m) r f e = no-way e
 holds-is : {p : Shape} (r v : ℕ) (f : ℕ → Bool) → p ≡ Movei r v → f v ≡ true → holds p r f ≡ true
 holds-is r v f q e = subst (λ p. holds p r f ≡ true) (sym q) (and-i (eq-eqb r r refl) e)
 
-exactly-of : (x : Range) (n : ℕ) → isExactly x n ≡ true → (x .low ≡ n) × (x .high ≡ n)
-exactly-of x n e = (
-  eqb-true (x .low) n (and-l (eqb (x .low) n) (eqb (x .high) n) e),
-  eqb-true (x .high) n (and-r (eqb (x .low) n) (eqb (x .high) n) e),
-)
-
-exactly-is : (x : Range) (n : ℕ) → x .low ≡ n → x .high ≡ n → isExactly x n ≡ true
-exactly-is x n e f = and-i (eq-eqb (x .low) n e) (eq-eqb (x .high) n f)
-
 module _ (P : Processor) (code : List ℕ) where
   -- an access
   inside-of : (from a : ℕ) → inside P from a ≡ true → Inside P code from a
@@ -66,38 +57,29 @@ module _ (P : Processor) (code : List ℕ) where
   abbrev inRam : ℕ → Range → Bool
   inRam from x = inside P from (x .low) && inside P from (x .high)
 
-  abbrev atOthers : Range → Bool
-  atOthers x = isExactly x (P .control) || isExactly x (P .divide)
+  abbrev atRegister : Range → Bool
+  atRegister x = eqb (x .low) (x .high) && isRegister P (x .low)
 
-  abbrev atRegisters : Range → Bool
-  atRegisters x = isExactly x (P .flags) || atOthers x
-
-  place-of : (from : ℕ) (x : Range) → (inRam from x || atRegisters x) ≡ true → Place P code from x
+  place-of : (from : ℕ) (x : Range) → (inRam from x || atRegister x) ≡ true → Accessible P code from x
   place-of from x e =
-      or-cases (inRam from x) (atRegisters x) e
+      or-cases (inRam from x) (atRegister x) e
       (λ h. in-ram
       (inside-of from (x .low) (and-l (inside P from (x .low)) (inside P from (x .high)) h))
       (inside-of from (x .high) (and-r (inside P from (x .low)) (inside P from (x .high)) h)))
-      (λ h. or-cases (isExactly x (P .flags)) (atOthers x) h
-      (λ g. let q = exactly-of x (P .flags) g in at-flags (q .0) (q .1))
-      (λ g. or-cases (isExactly x (P .control)) (isExactly x (P .divide)) g
-      (λ f. let q = exactly-of x (P .control) f in at-control (q .0) (q .1))
-      (λ f. let q = exactly-of x (P .divide) f in at-divide (q .0) (q .1))))
+      (λ h. one-register
+      (eqb-true (x .low) (x .high) (and-l (eqb (x .low) (x .high)) (isRegister P (x .low)) h))
+      (and-r (eqb (x .low) (x .high)) (isRegister P (x .low)) h))
 
   pub reaches-of : (from : ℕ) (x : Range) → within P from x ≡ true → Reaches P code from x
   reaches-of from x e =
       record {
-        is-aligned = and-l (x .aligned) (inRam from x || atRegisters x) e;
-        place = place-of from x (and-r (x .aligned) (inRam from x || atRegisters x) e);
+        is-aligned = and-l (x .aligned) (inRam from x || atRegister x) e;
+        place = place-of from x (and-r (x .aligned) (inRam from x || atRegister x) e);
       }
 
-  place-is : (from : ℕ) (x : Range) → Place P code from x → (inRam from x || atRegisters x) ≡ true
-  place-is from x (in-ram l h) = or-l (atRegisters x) (and-i (inside-is from (x .low) l) (inside-is from (x .high) h))
-  place-is from x (at-flags l h) = or-r (inRam from x) (or-l (atOthers x) (exactly-is x (P .flags) l h))
-  place-is from x (at-control l h) =
-      or-r (inRam from x) (or-r (isExactly x (P .flags)) (or-l (isExactly x (P .divide)) (exactly-is x (P .control) l h)))
-  place-is from x (at-divide l h) =
-      or-r (inRam from x) (or-r (isExactly x (P .flags)) (or-r (isExactly x (P .control)) (exactly-is x (P .divide) l h)))
+  place-is : (from : ℕ) (x : Range) → Accessible P code from x → (inRam from x || atRegister x) ≡ true
+  place-is from x (in-ram l h) = or-l (atRegister x) (and-i (inside-is from (x .low) l) (inside-is from (x .high) h))
+  place-is from x (one-register e r) = or-r (inRam from x) (and-i (eq-eqb (x .low) (x .high) e) r)
 
   pub reaches-is : (from : ℕ) (x : Range) → Reaches P code from x → within P from x ≡ true
   reaches-is from x r = and-i (r .is-aligned) (place-is from x (r .place))

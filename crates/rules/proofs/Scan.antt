@@ -8,7 +8,7 @@ use native.Mathlib.Omega.{arith}
 use lib.Dec.{ltb}
 use lib.ListN.{length}
 use borrow.Author.Tests.{ltb-true, ltb-false, lt-ltb, le-ltb}
-use Rattle.memory.specs.Processor.{Processor}
+use Rattle.processor.specs.Processor.{Processor}
 use Rattle.rules.specs.declared.Shape.{Shape}
 use Rattle.rules.specs.declared.Shape.the-variants.{Other, Movei, MovePc, Jr, Jump, Load, Store}
 use Rattle.rules.specs.declared.Hit.{Hit}

@@ -6,7 +6,8 @@ use lib.Dec.{eqb, ltb, leb}
 use lib.ListN.{length, take}
 use Rattle.field.specs.Fields.{signedFieldOf}
 use Rattle.branch.specs.Jump.{jrTargetOf}
-use Rattle.memory.specs.Processor.{Processor}
+use Rattle.processor.specs.Processor.{Processor}
+use Rattle.memory.specs.Memory.{isRegister}
 use Rattle.rules.specs.declared.Range.{Range}
 use Rattle.rules.specs.declared.Verdict.{Verdict}
 use Rattle.rules.specs.declared.Verdict.the-variants.{Admitted, RamLength, CodeLength, Broken}
@@ -20,7 +21,7 @@ use Rattle.rules.specs.declared.Shape.{Shape}
 use Rattle.rules.specs.declared.Shape.the-variants.{Other, Movei, MovePc, Jr, Jump, Load, Store}
 use Rattle.rules.specs.Reading.{jumps, breaksSlot, always, shapeOf, endOf, itemAt, shapeAt, after, before}
 use Rattle.rules.specs.Scan.{found, firstBad}
-use Rattle.rules.specs.Known.{unknown, addressRange, isExactly, transferOf}
+use Rattle.rules.specs.Known.{unknown, addressRange, transferOf}
 
 abbrev pub isBuilt : Item → Bool
 isBuilt Unbuilt = false
@@ -53,7 +54,7 @@ inside P from a = leb from a && ltb a (P .base + P .size)
 -- by both ends of its range in RAM from an address on, or one exact built register; and a multiple of 4
 abbrev pub within : Processor → ℕ → Range → Bool
 within P from x =
-    x .aligned && ((inside P from (x .low) && inside P from (x .high)) || (isExactly x (P .flags) || (isExactly x (P .control) || isExactly x (P .divide))))
+    x .aligned && ((inside P from (x .low) && inside P from (x .high)) || (eqb (x .low) (x .high) && isRegister P (x .low)))
 
 module _ (P : Processor) (code : List ℕ) where
   unfoldable pub isStart : ℕ → Bool
@@ -113,19 +114,19 @@ module _ (P : Processor) (code : List ℕ) where
   ok6 a k = accessOk k (shapeAt P code a)
 
   -- the first instruction at which a test fails that looks at the instruction before
-  abbrev pub first : (ℕ → Item → Bool) → Hit
-  first test = firstBad P code Item Unbuilt (before P code) test
+  abbrev pub firstFailing : (ℕ → Item → Bool) → Hit
+  firstFailing test = firstBad P code Item Unbuilt (before P code) test
 
   abbrev pub firstAccess : Hit
   firstAccess = firstBad P code (List Range) unknown learn ok6
 
   -- the first instruction that breaks a rule
   abbrev pub firstOf : Rule → Hit
-  firstOf AllBuilt = first ok1
-  firstOf JrTarget = first ok2
-  firstOf JumpTarget = first ok3
-  firstOf DelaySlot = first ok4
-  firstOf Ending = first ok5
+  firstOf AllBuilt = firstFailing ok1
+  firstOf JrTarget = firstFailing ok2
+  firstOf JumpTarget = firstFailing ok3
+  firstOf DelaySlot = firstFailing ok4
+  firstOf Ending = firstFailing ok5
   firstOf Access = firstAccess
 
 abbrev pub orElse : Hit → (ℕ → Verdict) → Verdict → Verdict

@@ -8,7 +8,7 @@ use Rattle.class.specs.declared.Address.{Address}
 use Rattle.class.specs.declared.Address.the-variants.{At, Offset, Indexed}
 use Rattle.class.specs.declared.Class.{Class}
 use Rattle.class.specs.declared.Class.the-variants as C
-use Rattle.memory.specs.Processor.{Processor}
+use Rattle.processor.specs.Processor.{Processor}
 use Rattle.rules.specs.declared.Range.{Range}
 use Rattle.rules.specs.declared.Item.{Item}
 use Rattle.rules.specs.declared.Item.the-variants.{Unbuilt, Built}
@@ -28,8 +28,8 @@ abbrev pub rangeAt : List Range → ℕ → Range
 rangeAt k r = getD k r full
 
 -- "MOVEI and MOVEQ set the exact value and its own yes or no"
-abbrev pub exactly : ℕ → Range
-exactly v = record { low = v; high = v; aligned = eqb (v % 4) 0 }
+abbrev pub exactRange : ℕ → Range
+exactRange v = record { low = v; high = v; aligned = eqb (v % 4) 0 }
 
 -- "AND: from 0 to the smaller upper end, yes if either is yes."
 abbrev pub andRange : Range → Range → Range
@@ -60,7 +60,7 @@ shiftedRange n = record { low = 0; high = most; aligned = leb 2 n }
 -- "address sums: ends added"
 abbrev pub addressRange : List Range → Address → Range
 addressRange k (At r) = rangeAt k r
-addressRange k (Offset r n) = sumRange (rangeAt k r) (exactly n)
+addressRange k (Offset r n) = sumRange (rangeAt k r) (exactRange n)
 addressRange k (Indexed r s) = sumRange (rangeAt k r) (rangeAt k s)
 
 abbrev pub isExactly : Range → ℕ → Bool
@@ -72,12 +72,12 @@ module _ (P : Processor) where
   abbrev pub transfer : Class → ℕ → List Range → List Range
   transfer C.Quiet v k = k
   transfer (C.Write d) v k = set k d full
-  transfer (C.Moveq n d) v k = set k d (exactly n)
-  transfer (C.Movei d) v k = set k d (exactly v)
+  transfer (C.Moveq n d) v k = set k d (exactRange n)
+  transfer (C.Movei d) v k = set k d (exactRange v)
   transfer (C.Move s d) v k = set k d (rangeAt k s)
   transfer (C.And s d) v k = set k d (andRange (rangeAt k d) (rangeAt k s))
   transfer (C.Add s d) v k = set k d (sumRange (rangeAt k d) (rangeAt k s))
-  transfer (C.AddQuick n d) v k = set k d (sumRange (rangeAt k d) (exactly n))
+  transfer (C.AddQuick n d) v k = set k d (sumRange (rangeAt k d) (exactRange n))
   transfer (C.SubQuick n d) v k = set k d (lessRange (rangeAt k d) n)
   transfer (C.Shlq n d) v k = set k d (shiftedRange n)
   transfer (C.Load m d) v k = set k d full

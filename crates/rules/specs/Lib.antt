@@ -4,5 +4,4 @@ pub mod Known
 pub mod Rules
 pub mod Scan
 pub mod Check
-pub mod KnownRows
 pub mod Safety

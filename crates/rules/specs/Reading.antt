@@ -6,7 +6,6 @@ use lib.Dec.{eqb}
 use lib.ListN.{length}
 use Rattle.isa.specs.declared.Decoded.{Decoded}
 use Rattle.isa.specs.declared.Decoded.the-variants as D
-use Rattle.isa.specs.Words.{decodeOf}
 use Rattle.class.specs.declared.Class.{Class}
 use Rattle.class.specs.declared.Class.the-variants as C
 use Rattle.class.specs.Classes.{classOf}
@@ -14,7 +13,7 @@ use Rattle.rules.specs.declared.Item.{Item}
 use Rattle.rules.specs.declared.Item.the-variants.{Unbuilt, Built}
 use Rattle.rules.specs.declared.Shape.{Shape}
 use Rattle.rules.specs.declared.Shape.the-variants.{Other, Movei, MovePc, Jr, Jump, Load, Store}
-use Rattle.memory.specs.Processor.{Processor}
+use Rattle.processor.specs.Processor.{Processor}
 use Rattle.memory.specs.Memory.{wordAt}
 
 -- What stands at an address.
@@ -23,8 +22,8 @@ itemIn (D.Built i) long = Built (classOf i) long
 itemIn (D.Refused f) long = Unbuilt
 
 -- "MOVEI is followed by the low word, then the high word."
-unfoldable pub itemOf : List ℕ → ℕ → Item
-itemOf code i = itemIn (decodeOf (wordAt code i)) (wordAt code (i + 4) * 2 ^ 16 + wordAt code (i + 2))
+unfoldable pub itemOf : Processor → List ℕ → ℕ → Item
+itemOf P code i = itemIn (P .decode (wordAt code i)) (wordAt code (i + 4) * 2 ^ 16 + wordAt code (i + 2))
 
 -- What rules 2 to 6 ask of it.
 abbrev pub shapeIn : Class → ℕ → Shape
@@ -93,7 +92,7 @@ module _ (P : Processor) (code : List ℕ) where
   endOf = P .base + length code
 
   unfoldable pub itemAt : ℕ → Item
-  itemAt a = itemOf code (a - P .base)
+  itemAt a = itemOf P code (a - P .base)
 
   abbrev pub shapeAt : ℕ → Shape
   shapeAt a = shapeOf (itemAt a)

@@ -6,7 +6,8 @@ use mathlib.Core.List.{List}
 use Rattle.class.specs.declared.Address.{Address}
 use Rattle.field.specs.Fields.{signedFieldOf}
 use Rattle.branch.specs.Jump.{jrTargetOf}
-use Rattle.memory.specs.Processor.{Processor}
+use Rattle.processor.specs.Processor.{Processor}
+use Rattle.memory.specs.Memory.{isRegister}
 use Rattle.rules.specs.declared.Range.{Range}
 use Rattle.rules.specs.declared.Item.{Item}
 use Rattle.rules.specs.declared.Item.the-variants.{Unbuilt}
@@ -57,16 +58,14 @@ module _ (P : Processor) (code : List ℕ) where
     pub high : a < P .base + P .size
 
   -- "by both ends of its range, inside the allowed RAM […] or one exact built register"
-  pub data Place (from : ℕ) (x : Range) : Type 0 where
-    in-ram : Inside from (x .low) → Inside from (x .high) → Place from x
-    at-flags : x .low ≡ P .flags → x .high ≡ P .flags → Place from x
-    at-control : x .low ≡ P .control → x .high ≡ P .control → Place from x
-    at-divide : x .low ≡ P .divide → x .high ≡ P .divide → Place from x
+  pub data Accessible (from : ℕ) (x : Range) : Type 0 where
+    in-ram : Inside from (x .low) → Inside from (x .high) → Accessible from x
+    one-register : x .low ≡ x .high → isRegister P (x .low) ≡ true → Accessible from x
 
   -- "Every access is known to be a multiple of 4 and" in such a place
   pub record Reaches (from : ℕ) (x : Range) : Type 0 where
     pub is-aligned : x .aligned ≡ true
-    pub place : Place from x
+    pub place : Accessible from x
 
   -- 1. "all instructions are built and the last ends exactly at C. The address told is the first instruction's that isn't so."
   abbrev pub Rule1 : ℕ → Item → Type 0

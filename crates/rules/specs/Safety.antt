@@ -1,26 +1,22 @@
 -- Demand 3, stated: what the check admits, and what a run of an admitted program never does.
-use Prim.Native.Nat.{ℕ, zero, suc, _%_, _≤_, _<_}
+use Prim.Native.Nat.{ℕ, zero, suc, _%_, _≤_}
 use mathlib.Core.Path.{_≡_}
 use mathlib.Core.Logic.{_↔_}
 use mathlib.Core.List.{List, [], _∷_}
 use lib.ListN.{length, take}
-use Rattle.memory.specs.Processor.{Processor}
+use Rattle.processor.specs.Processor.{Processor}
 use Rattle.answers.specs.Answers.{numberOf}
-use Rattle.state.specs.declared.Pending.the-variants.{None}
-use Rattle.state.specs.declared.Activity.the-variants as A
+use Rattle.core.specs.declared.Pending.the-variants.{None}
+use Rattle.core.specs.declared.Activity.the-variants as A
+use Rattle.core.specs.Machine.{Memory}
+use Rattle.core.specs.Types.{IsMemory}
 use Rattle.machine.specs.declared.State.{State}
+use Rattle.machine.specs.State.{IsState}
 use Rattle.machine.specs.Run.{budgetLimit, runOf, stepOf}
-use Rattle.machine.specs.Types.{IsBytes, IsState}
 use Rattle.rules.specs.declared.Verdict.{Verdict}
 use Rattle.rules.specs.declared.Verdict.the-variants.{Admitted, RamLength, CodeLength, Broken}
 use Rattle.rules.specs.Check.{checkOf}
 use Rattle.rules.specs.Rules.{IsStart, Rules, FirstBroken}
-
--- What is asked of a processor's constants beside `Sound`: the built registers lie below local RAM.
-pub record Apart (P : Processor) : Type 0 where
-  pub flags-below : P .flags < P .base
-  pub control-below : P .control < P .base
-  pub divide-below : P .divide < P .base
 
 -- "any state that is running, with the counter at the first instruction and no jump pending"
 pub record Begins (P : Processor) (s : State) : Type 0 where
@@ -28,43 +24,42 @@ pub record Begins (P : Processor) (s : State) : Type 0 where
   pub at-first : s .pc ≡ P .base
   pub none-pending : s .pending ≡ None
 
--- RAM that 31 lets through with the admitted code at its start, whatever stands behind it, and a state that begins
-pub record Loaded (P : Processor) (admitted : List ℕ) (C : ℕ) (ram : List ℕ) (s : State) : Type 0 where
-  pub whole-ram : length ram ≡ P .size
-  pub is-ram : IsBytes ram
-  pub same-code : take C ram ≡ take C admitted
+-- memory that 31 lets through with the admitted code at the start of RAM, whatever stands behind it, and a state that begins
+pub record Loaded (P : Processor) (admitted : List ℕ) (C : ℕ) (memory : Memory) (s : State) : Type 0 where
+  pub is-memory : IsMemory (P .size) memory
+  pub same-code : take C (memory .ram) ≡ take C admitted
   pub is-state : IsState s
   pub begins : Begins P s
 
 -- "Each step gets the RAM and state that the one before left, and nobody else writes them meanwhile."
 pub record Left : Type 0 where
   pub state : State
-  pub ram : List ℕ
+  pub memory : Memory
 
-unfoldable pub afterSteps : Processor → ℕ → List ℕ → State → Left
-afterSteps P zero ram s = record { state = s; ram = ram }
-afterSteps P (suc k) ram s = afterSteps P k (stepOf P ram s .ram) (stepOf P ram s .ran .state)
+unfoldable pub afterSteps : Processor → ℕ → Memory → State → Left
+afterSteps P zero memory s = record { state = s; memory = memory }
+afterSteps P (suc k) memory s = afterSteps P k (stepOf P memory s .memory) (stepOf P memory s .ran .state)
 
--- A display calls the run again and again, each time with the RAM and state that the call before left: what some calls leave.
-unfoldable pub afterCalls : Processor → List ℕ → List ℕ → State → Left
-afterCalls P [] ram s = record { state = s; ram = ram }
-afterCalls P (budget ∷ budgets) ram s = afterCalls P budgets (runOf P ram s budget .ram) (runOf P ram s budget .ran .state)
+-- A display calls the run again and again, each time with the RAM and state that the call before left: what some runs leave.
+unfoldable pub afterRuns : Processor → List ℕ → Memory → State → Left
+afterRuns P [] memory s = record { state = s; memory = memory }
+afterRuns P (budget ∷ budgets) memory s = afterRuns P budgets (runOf P memory s budget .memory) (runOf P memory s budget .ran .state)
 
 module _ (P : Processor) (code : List ℕ) where
   -- "the program's code is byte for byte the admitted code, and the program counter is at the start of one of the program's
   -- instructions"
   pub record Kept (l : Left) : Type 0 where
-    pub same-code : take (length code) (l .ram) ≡ code
+    pub same-code : take (length code) (l .memory .ram) ≡ code
     pub at-start : IsStart P code (l .state .pc)
 
   -- what demand 3 says of one run
-  pub record Safe (ram : List ℕ) (s : State) (budget : ℕ) : Type 0 where
+  pub record Safe (memory : Memory) (s : State) (budget : ℕ) : Type 0 where
     -- "the run answers 0 or 1 and never a fault"
-    pub answers : numberOf (runOf P ram s budget .ran .answer) ≤ 1
+    pub answers : numberOf (runOf P memory s budget .ran .answer) ≤ 1
     -- "Before its first step and after each one, the stopping step included"
-    pub keeps : (k : ℕ) → k ≤ runOf P ram s budget .ran .steps → Kept (afterSteps P k ram s)
+    pub keeps : (k : ℕ) → k ≤ runOf P memory s budget .ran .steps → Kept (afterSteps P k memory s)
     -- what the run hands back is what its steps left
-    pub ends : afterSteps P (runOf P ram s budget .ran .steps) ram s ≡ record { state = runOf P ram s budget .ran .state; ram = runOf P ram s budget .ram }
+    pub ends : afterSteps P (runOf P memory s budget .ran .steps) memory s ≡ record { state = runOf P memory s budget .ran .state; memory = runOf P memory s budget .memory }
 
 -- "A program is code that the check's refusals before rule 1 let through."
 pub record IsProgram (P : Processor) (ram : List ℕ) (C : ℕ) : Type 0 where
@@ -87,8 +82,8 @@ pub record Demand3 (P : Processor) : Type 0 where
   pub exactly : (ram : List ℕ) (C : ℕ) → (checkOf P ram C ≡ Admitted) ↔ (IsProgram P ram C × Rules P (take C ram))
   -- "Start an admitted program running at its first instruction with no jump pending. Whatever the registers, the flags, the rest of
   -- the state and the data hold, and whatever allowed budget it is given", its run is safe.
-  pub safely : (admitted : List ℕ) (C : ℕ) → checkOf P admitted C ≡ Admitted → (ram : List ℕ) (s : State) → Loaded P admitted C ram s
-      → (budget : ℕ) → budget ≤ budgetLimit → Safe P (take C admitted) ram s budget
+  pub safely : (admitted : List ℕ) (C : ℕ) → checkOf P admitted C ≡ Admitted → (memory : Memory) (s : State) → Loaded P admitted C memory s
+      → (budget : ℕ) → budget ≤ budgetLimit → Safe P (take C admitted) memory s budget
 
 -- Beside it: what the check tells where it refuses.
 pub record Tells (P : Processor) : Type 0 where
@@ -96,6 +91,6 @@ pub record Tells (P : Processor) : Type 0 where
 
 -- And how an admitted program goes on from call to call: every run is safe, whatever runs came before.
 pub record GoesOn (P : Processor) : Type 0 where
-  pub goes-on : (admitted : List ℕ) (C : ℕ) → checkOf P admitted C ≡ Admitted → (ram : List ℕ) (s : State) → Loaded P admitted C ram s
+  pub goes-on : (admitted : List ℕ) (C : ℕ) → checkOf P admitted C ≡ Admitted → (memory : Memory) (s : State) → Loaded P admitted C memory s
       → (budgets : List ℕ) (budget : ℕ) → budget ≤ budgetLimit
-      → Safe P (take C admitted) (afterCalls P budgets ram s .ram) (afterCalls P budgets ram s .state) budget
+      → Safe P (take C admitted) (afterRuns P budgets memory s .memory) (afterRuns P budgets memory s .state) budget

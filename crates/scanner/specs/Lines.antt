@@ -50,5 +50,5 @@ keyedIn f [] t = numberIn f 0 0 t
 keyedIn f (k ∷ ks) [] = none
 keyedIn f (k ∷ ks) (c ∷ cs) = cond (eqb c k) (keyedIn f ks cs) none
 
-abbrev pub lineOf : Digits → String → List ℕ → Line
-lineOf f key t = keyedIn f (bytes key) t
+abbrev pub lineIn : Digits → String → List ℕ → Line
+lineIn f key t = keyedIn f (bytes key) t

@@ -1,1 +1,1 @@
-pub mod Rotations
+pub mod Shifts

@@ -8,13 +8,13 @@ use Rattle.values.specs.declared.Computed.{Computed}
 use Rattle.values.specs.Results.{computedOf}
 use Rattle.values.specs.Signed.{signedOf}
 
--- A signed number held to 0 to top.
-abbrev pub heldOf : ℕ → ℤ → ℕ
-heldOf top (pos n) = cond (ltb top n) top n
-heldOf top (negsuc n) = 0
+-- A signed number clamped to 0 to top, which the paper calls held.
+abbrev pub clampOf : ℕ → ℤ → ℕ
+clampOf top (pos n) = cond (ltb top n) top n
+clampOf top (negsuc n) = 0
 
 abbrev pub saturatedOf : ℕ → ℕ → ℕ → Computed
-saturatedOf top d c = computedOf (heldOf top (signedOf d)) c
+saturatedOf top d c = computedOf (clampOf top (signedOf d)) c
 
 abbrev pub sat8Of : ℕ → ℕ → Computed
 sat8Of d c = saturatedOf 255 d c

@@ -20,14 +20,10 @@ rightOf d k = computedOf (cond (ltb k 32) (d / 2 ^ k) 0) (d % 2)
 abbrev pub rightSignedOf : ℕ → ℕ → Computed
 rightSignedOf d k = computedOf (unsignedOf (shrZ (signedOf d) (2 ^ cond (ltb k 32) k 31))) (d % 2)
 
--- "SH: s signed, right if 0 or more, left if negative"
-abbrev pub shOf : ℕ → ℕ → Computed
-shOf d s =
-    cond (ltZ (signedOf s) (pos 0)) (leftOf d (natAbs (signedOf s))) (rightOf d (natAbs (signedOf s)))
-
-abbrev pub shaOf : ℕ → ℕ → Computed
-shaOf d s =
-    cond (ltZ (signedOf s) (pos 0)) (leftOf d (natAbs (signedOf s))) (rightSignedOf d (natAbs (signedOf s)))
+-- "SH: s signed, right if 0 or more, left if negative": SH is this over rightOf, and SHA over rightSignedOf.
+abbrev pub shiftOf : (ℕ → ℕ → Computed) → ℕ → ℕ → Computed
+shiftOf right d s =
+    cond (ltZ (signedOf s) (pos 0)) (leftOf d (natAbs (signedOf s))) (right d (natAbs (signedOf s)))
 
 -- "ROR by the low five bits of s, RORQ by quick n; C is old bit 31." The bits below place k come in above the others.
 abbrev pub rotateOf : ℕ → ℕ → Computed

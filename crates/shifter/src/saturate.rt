@@ -1,12 +1,12 @@
 // SAT8, SAT16 and SAT24.
 ghost use mathlib.Core.Path.{_≡_};
-ghost use Rattle.shifter.specs.Saturate.{heldOf, saturatedOf, sat8Of, sat16Of, sat24Of};
+ghost use Rattle.shifter.specs.Saturate.{clampOf, saturatedOf, sat8Of, sat16Of, sat24Of};
 use values::Computed;
 use values::signed::signed;
 
-// v held to 0 to top.
-fn held(v: i32, top: u32) -> u32
-    ensures { λ r. ⌜ r ≡ heldOf top v ⌝ }
+// v clamped to 0 to top.
+fn clamp(v: i32, top: u32) -> u32
+    ensures { λ r. ⌜ r ≡ clampOf top v ⌝ }
 {
     if v < 0 {
         return 0;
@@ -19,7 +19,7 @@ fn saturated(d: u32, top: u32, c: u32) -> Computed
     ensures { λ r. ⌜ r ≡ saturatedOf top d c ⌝ }
 {
     Computed {
-        value: held(signed(d), top),
+        value: clamp(signed(d), top),
         carry: c,
     }
 }

@@ -1,6 +1,6 @@
 // SH, SHA, SHLQ, SHRQ, SHARQ, ROR and RORQ. The quick forms are left, right, right_signed and rotate by a quick number.
 ghost use mathlib.Core.Path.{_≡_};
-ghost use Rattle.shifter.specs.Shift.{leftOf, rightOf, rightSignedOf, shOf, shaOf, rotateOf};
+ghost use Rattle.shifter.specs.Shift.{leftOf, rightOf, rightSignedOf, shiftOf, rotateOf};
 use values::Computed;
 use values::signed::magnitude;
 use values::signed::signed;
@@ -58,7 +58,7 @@ pub fn right_signed(d: u32, k: u32) -> Computed
 }
 
 pub fn sh(d: u32, s: u32) -> Computed
-    ensures { λ r. ⌜ r ≡ shOf d s ⌝ }
+    ensures { λ r. ⌜ r ≡ shiftOf rightOf d s ⌝ }
 {
     if signed(s) < 0 {
         left(d, magnitude(s))
@@ -68,7 +68,7 @@ pub fn sh(d: u32, s: u32) -> Computed
 }
 
 pub fn sha(d: u32, s: u32) -> Computed
-    ensures { λ r. ⌜ r ≡ shaOf d s ⌝ }
+    ensures { λ r. ⌜ r ≡ shiftOf rightSignedOf d s ⌝ }
 {
     if signed(s) < 0 {
         left(d, magnitude(s))

@@ -14,20 +14,20 @@ use Rattle.text.specs.Bytes.{bytes}
 use Rattle.text.specs.Digits.{hexDigits, decimalOf}
 use Rattle.text.specs.Wrote.{Begins}
 use Rattle.text.proofs.Digits.{hex-length, decimal-length}
-use Rattle.template.specs.Fill.{written, filled, widthOf, roomOf}
+use Rattle.template.specs.Fill.{substituted, filled, widthOf, roomOf}
 
 module _ (c : ℕ) (address : c ≡ 64 → ⊥) (count : c ≡ 35 → ⊥) where
   pub plain-width : widthOf c ≡ 1
   plain-width = simp (ne-eqb c 64 address, ne-eqb c 35 count)
 
-  pub plain : (a n : ℕ) → written c a n ≡ c ∷ []
+  pub plain : (a n : ℕ) → substituted c a n ≡ c ∷ []
   plain a n = simp (ne-eqb c 64 address, ne-eqb c 35 count)
 
 pub count-length : (n : ℕ) → length (decimalOf n) ≤ 10
 unfolding decimalOf
 count-length n = decimal-length 10 n
 
-pub width : (c a n : ℕ) → length (written c a n) ≤ widthOf c
+pub width : (c a n : ℕ) → length (substituted c a n) ≤ widthOf c
 width c a n = go (eqb c 64) (eqb c 35) where
   go : (s t : Bool) → length (cond s (hexDigits 8 a) (cond t (decimalOf n) (c ∷ []))) ≤ cond s 8 (cond t 10 1)
   go true t = omega (arith, hex-length 8 a)
@@ -41,12 +41,12 @@ room t i h = ap roomOf (drop-cons t i 0 h)
 filled-append : (s t : List ℕ) (a n : ℕ) → filled (s ++ t) a n ≡ filled s a n ++ filled t a n
 unfolding filled
 filled-append [] t a n = refl
-filled-append (c ∷ s) t a n = ap (λ r. written c a n ++ r) (filled-append s t a n) ∙ sym (append-assoc (written c a n) (filled s a n) (filled t a n))
+filled-append (c ∷ s) t a n = ap (λ r. substituted c a n ++ r) (filled-append s t a n) ∙ sym (append-assoc (substituted c a n) (filled s a n) (filled t a n))
 
 -- One byte more of the text.
-pub one-more : (t : List ℕ) (i a n : ℕ) → i < length t → filled (take (suc i) t) a n ≡ filled (take i t) a n ++ written (getD t i 0) a n
+pub one-more : (t : List ℕ) (i a n : ℕ) → i < length t → filled (take (suc i) t) a n ≡ filled (take i t) a n ++ substituted (getD t i 0) a n
 unfolding filled
-one-more t i a n h = ap (λ s. filled s a n) (take-suc t i 0 h) ∙ filled-append (take i t) (getD t i 0 ∷ []) a n ∙ ap (λ r. filled (take i t) a n ++ r) (append-nil (written (getD t i 0) a n))
+one-more t i a n h = ap (λ s. filled s a n) (take-suc t i 0 h) ∙ filled-append (take i t) (getD t i 0 ∷ []) a n ∙ ap (λ r. filled (take i t) a n ++ r) (append-nil (substituted (getD t i 0) a n))
 
 -- A text that was written is that of another name for it.
 pub named : (a n : ℕ) {before t u after : List ℕ} {next : ℕ} → t ≡ u → Begins before (filled t a n) after next → Begins before (filled u a n) after next

@@ -6,12 +6,12 @@ use lib.Dec.{eqb}
 use Rattle.text.specs.Digits.{hexDigits, decimalOf}
 
 -- What is written for a byte: for '@' the address as a card has it, for '#' the count, for any other byte itself.
-abbrev pub written : ℕ → ℕ → ℕ → List ℕ
-written c address count = cond (eqb c 64) (hexDigits 8 address) (cond (eqb c 35) (decimalOf count) (c ∷ []))
+abbrev pub substituted : ℕ → ℕ → ℕ → List ℕ
+substituted c address count = cond (eqb c 64) (hexDigits 8 address) (cond (eqb c 35) (decimalOf count) (c ∷ []))
 
 unfoldable pub filled : List ℕ → ℕ → ℕ → List ℕ
 filled [] address count = []
-filled (c ∷ cs) address count = written c address count ++ filled cs address count
+filled (c ∷ cs) address count = substituted c address count ++ filled cs address count
 
 -- The most bytes that are written for a byte, and for a text. A number of 32 bits has at most ten decimal digits.
 abbrev pub widthOf : ℕ → ℕ

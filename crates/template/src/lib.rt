@@ -2,7 +2,7 @@
 ghost use Prim.Native.Nat.{_+_, _≤_};
 ghost use lib.ListN.{length};
 ghost use Rattle.text.specs.Wrote.{Wrote, Begins};
-ghost use Rattle.template.specs.Fill.{written, filled, widthOf, roomOf};
+ghost use Rattle.template.specs.Fill.{substituted, filled, widthOf, roomOf};
 use text::decimal;
 use text::hex;
 use text::put;
@@ -22,7 +22,7 @@ pub fn fill(out: &mut [u8; 1024], text: &[u8], address: u32, count: u32) -> usiz
 
 fn write_byte(out: &mut [u8], at: usize, byte: u8, address: u32, count: u32) -> usize
     requires { ⌜ at + widthOf byte ≤ length (now out) ⌝ }
-    ensures { λ r. ⌜ Wrote (now (out .entry)) at (written byte address count) (now (out .exit)) r ⌝ }
+    ensures { λ r. ⌜ Wrote (now (out .entry)) at (substituted byte address count) (now (out .exit)) r ⌝ }
 {
     if byte == 64 {
         return hex(out, at, 8, address);

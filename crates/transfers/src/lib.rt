@@ -2,113 +2,155 @@
 ghost use mathlib.Core.Path.{_≡_};
 ghost use lib.ListN.{length};
 ghost use Rattle.memory.specs.Memory.{placeOf};
-ghost use Rattle.memory.specs.Processor.{gpu};
-ghost use Rattle.state.specs.State.{withControl};
-ghost use Rattle.transfers.specs.Loop.{movedWith, changeOf, running};
-ghost use Rattle.transfers.specs.Transfers.{faultedOf, doneOf, jumpOf, loadOf, storeOf, written, moveImmediateOf, moveCounterOf, moveLoadedOf, outcome, viewFrom};
-use answers::Answer;
+ghost use Rattle.processor.specs.Processor.{gpu};
+ghost use Rattle.core.specs.Core.{movedOf};
+ghost use Rattle.core.specs.declared.Pending.the-variants.{None};
+ghost use Rattle.core.specs.Machine.{machineWith, lent};
+ghost use Rattle.transfers.specs.Outcome.{movedWith, faultedOf, doneOf, outcomeWith};
+ghost use Rattle.transfers.specs.Transfers.{jumpOf, controlOf, immediateIn, counterIn, loadOf, Receives, storeOf};
+use answers::End;
 use answers::Fault;
 use branch::taken;
-use memory::Immediate;
+use core::Core;
+use core::Pending;
 use memory::Place;
+use memory::Received;
 use memory::fetch_long;
 use memory::locate;
 use memory::long_at;
 use memory::put_long;
 use registers::put;
 use registers::settle;
-use state::flag_word;
-use state::live::Live;
 
-// The answer of one instruction of a running machine, and what the loop holds after it: Running where it was completed,
-// Stopped where it was completed and stopped the machine, and else a fault.
+// What an instruction tells: how it ended, and the core after it.
 pub struct Moved {
-    pub answer: Answer,
-    pub live: Live,
+    pub end: End,
+    pub core: Core,
 }
 
-// What a load finds.
-pub enum Loaded {
-    Long(u32),
-    Refused(Fault),
-}
-
-fn stay(answer: Answer, k: Live) -> Moved
-    ensures { λ r. ⌜ r ≡ movedWith answer k ⌝ }
+pub fn ended(end: End, k: Core) -> Moved
+    ensures { λ r. ⌜ r ≡ movedWith end k ⌝ }
 {
-    Moved {
-        answer: answer,
-        live: k,
-    }
+    Moved { end: end, core: k }
 }
 
 // An instruction that is not completed changes nothing.
-pub fn fault(f: Fault, k: Live) -> Moved
-    ensures { λ r. ⌜ changeOf r ≡ faultedOf f (running k) ⌝ }
+pub fn fault(f: Fault, k: Core) -> Moved
+    ensures { λ r. ⌜ r ≡ faultedOf f k ⌝ }
 {
-    stay(Answer::Faulted(f), k)
+    ended(End::Faulted(f), k)
 }
 
 // A whole instruction, with nothing pending after it.
-pub fn done(k: Live) -> Moved
-    ensures { λ r. ⌜ changeOf r ≡ doneOf (running k) ⌝ }
+pub fn done(k: Core) -> Moved
+    ensures { λ r. ⌜ r ≡ doneOf k ⌝ }
 {
-    stay(Answer::Running, k.moved(0, k.target))
+    ended(End::Completed, k.moved(Pending::None))
 }
 
-pub fn jump(k: Live, condition: u32, target: u32) -> Moved
-    ensures { λ r. ⌜ changeOf r ≡ jumpOf (running k) (running k .pending) condition target ⌝ }
+pub fn jump(k: Core, condition: u32, target: u32) -> Moved
+    ensures { λ r. ⌜ r ≡ jumpOf k (k .pending) condition target ⌝ }
 {
-    if k.waiting != 0 {
-        return fault(Fault::JumpPending, k);
-    }
-    let f = k.flags;
-    if taken(condition, f) {
-        stay(Answer::Running, k.moved(1, target))
-    } else {
-        done(k)
+    let p = k.pending;
+    match p {
+        Pending::At(_) => fault(Fault::JumpPending, k),
+        Pending::None => {
+            let f = k.flags;
+            if taken(condition, f) {
+                ended(End::Completed, k.moved(Pending::At(target)))
+            } else {
+                done(k)
+            }
+        }
     }
 }
 
-fn load(k: Live, ram: &[u8], address: u32) -> Loaded
-    requires { ⌜ length (now ram) ≡ 4096 ⌝ }
-    ensures { λ r. ⌜ r ≡ loadOf (running k) (now (ram .entry)) (placeOf gpu address) ⌝ }
+// The long of a MOVEI.
+pub fn immediate(k: Core, ram: &[u8]) -> Received
+    requires { ⌜ length (now ram) ≡ gpu .size ⌝ }
+    ensures { λ r. ⌜ r ≡ immediateIn gpu k (lent (now (ram .entry))) (k .pending) ⌝ }
+{
+    let p = k.pending;
+    match p {
+        Pending::At(_) => Received::Refused(Fault::JumpPending),
+        Pending::None => fetch_long(ram, k.pc),
+    }
+}
+
+// The address of a MOVE PC.
+pub fn counter(k: Core) -> Received
+    ensures { λ r. ⌜ r ≡ counterIn k (k .pending) ⌝ }
+{
+    let p = k.pending;
+    match p {
+        Pending::At(_) => Received::Refused(Fault::JumpPending),
+        Pending::None => Received::Long(k.pc),
+    }
+}
+
+// What a LOAD finds.
+pub fn load(k: Core, ram: &[u8], address: u32) -> Received
+    requires { ⌜ length (now ram) ≡ gpu .size ⌝ }
+    ensures { λ r. ⌜ r ≡ loadOf k (lent (now (ram .entry))) (placeOf gpu address) ⌝ }
 {
     let p = locate(address);
     match p {
-        Place::Ram(at) => Loaded::Long(long_at(ram, at)),
-        Place::Flags => {
-            let f = k.flags;
-            Loaded::Long(flag_word(f, k.bank))
-        }
-        Place::Control => Loaded::Long(0x2001),
-        Place::Divide => Loaded::Long(k.remainder),
-        Place::Refused(f) => Loaded::Refused(f),
+        Place::Ram(at) => Received::Long(long_at(ram, at)),
+        Place::Flags => Received::Long(k.flag_register()),
+        Place::Control => Received::Long(0x2001),
+        Place::Divide => Received::Long(k.remainder),
+        Place::Refused(f) => Received::Refused(f),
     }
 }
 
-// A write of v to the control register. Where it stops the machine, the answer tells so: no later instruction has to ask.
-fn control(k: Live, v: u32) -> Moved
-    ensures { λ r. ⌜ changeOf r ≡ doneOf (withControl (running k) v) ⌝ }
+// What was read becomes register d; or the instruction is not completed. The other bank and memory, whatever they are, stay.
+pub fn receive(a: &mut [u32; 32], k: Core, d: u32, v: Received) -> Moved
+    ensures { λ r. ⌜ Receives (now (a .entry)) k (movedOf k None) d v r (now (a .exit)) ⌝ }
 {
-    let next = k.moved(0, k.target);
+    match v {
+        Received::Refused(f) => fault(f, k),
+        Received::Long(n) => {
+            put(a, d, n);
+            done(k)
+        }
+    }
+}
+
+// The same where the caller hands over the core after it, as for a MOVEI: `receive` moves the counter by one word.
+pub fn receive_next(a: &mut [u32; 32], k: Core, next: Core, d: u32, v: Received) -> Moved
+    ensures { λ r. ⌜ Receives (now (a .entry)) k next d v r (now (a .exit)) ⌝ }
+{
+    match v {
+        Received::Refused(f) => fault(f, k),
+        Received::Long(n) => {
+            put(a, d, n);
+            ended(End::Completed, next)
+        }
+    }
+}
+
+// A write of v to the control register.
+fn control(k: Core, v: u32) -> Moved
+    ensures { λ r. ⌜ r ≡ controlOf k v ⌝ }
+{
+    let next = k.moved(Pending::None);
     if v % 2 == 0 {
-        stay(Answer::Stopped, next)
+        ended(End::Stopped, next)
     } else {
-        stay(Answer::Running, next)
+        ended(End::Completed, next)
     }
 }
 
 pub fn store(
     a: &mut [u32; 32],
     o: &mut [u32; 32],
-    k: Live,
+    k: Core,
     ram: &mut [u8],
     address: u32,
     v: u32,
 ) -> Moved
-    requires { ⌜ length (now ram) ≡ 4096 ⌝ }
-    ensures { λ r. ⌜ outcome (changeOf r) (now (a .exit)) (now (o .exit)) (now (ram .exit)) ≡ storeOf (now (ram .entry)) (viewFrom (now (a .entry)) (now (o .entry)) (running k)) v (placeOf gpu address) ⌝ }
+    requires { ⌜ length (now ram) ≡ gpu .size ⌝ }
+    ensures { λ r. ⌜ outcomeWith r (now (a .exit)) (now (o .exit)) (lent (now (ram .exit))) ≡ storeOf (machineWith (now (a .entry)) (now (o .entry)) k (lent (now (ram .entry)))) v (placeOf gpu address) ⌝ }
 {
     let p = locate(address);
     match p {
@@ -123,49 +165,5 @@ pub fn store(
         Place::Control => control(k, v),
         Place::Divide => done(k.with_mode(v)),
         Place::Refused(f) => fault(f, k),
-    }
-}
-
-// A MOVEI into register d.
-pub fn move_immediate(a: &mut [u32; 32], k: Live, ram: &[u8], d: u32) -> Moved
-    requires { ⌜ length (now ram) ≡ 4096 ⌝ }
-    ensures { λ r. ⌜ written (changeOf r) (now (a .exit)) ≡ moveImmediateOf gpu (now (ram .entry)) (now (a .entry)) (running k) (running k .pending) d ⌝ }
-{
-    if k.waiting != 0 {
-        return fault(Fault::JumpPending, k);
-    }
-    let i = fetch_long(ram, k.pc);
-    match i {
-        Immediate::Refused(f) => fault(f, k),
-        Immediate::Long(v) => {
-            put(a, d, v);
-            stay(Answer::Running, k.skipped())
-        }
-    }
-}
-
-// A MOVE PC into register d.
-pub fn move_counter(a: &mut [u32; 32], k: Live, d: u32) -> Moved
-    ensures { λ r. ⌜ written (changeOf r) (now (a .exit)) ≡ moveCounterOf (now (a .entry)) (running k) (running k .pending) d ⌝ }
-{
-    if k.waiting != 0 {
-        return fault(Fault::JumpPending, k);
-    }
-    put(a, d, k.pc);
-    done(k)
-}
-
-// A LOAD into register d.
-pub fn move_loaded(a: &mut [u32; 32], k: Live, ram: &[u8], d: u32, address: u32) -> Moved
-    requires { ⌜ length (now ram) ≡ 4096 ⌝ }
-    ensures { λ r. ⌜ written (changeOf r) (now (a .exit)) ≡ moveLoadedOf (now (a .entry)) (running k) d (loadOf (running k) (now (ram .entry)) (placeOf gpu address)) ⌝ }
-{
-    let l = load(k, ram, address);
-    match l {
-        Loaded::Refused(f) => fault(f, k),
-        Loaded::Long(v) => {
-            put(a, d, v);
-            done(k)
-        }
     }
 }

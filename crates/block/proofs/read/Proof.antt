@@ -1,14 +1,14 @@
 -- `read` meets its contract: each long where the definition has it, and the flags by their setters.
 -- Assumes nothing.
 use borrow.Author.Needs.{needs}
-use Rattle.machine.proofs.Typed.{is-bytes}
-use Rattle.block.specs.Block.{stateAt}
+use Rattle.core.proofs.Bytes.{is-bytes}
+use Rattle.block.specs.Block.{longs, stateAt}
 use Rattle.block.proofs.RoundTrip.{reads}
 use Rattle.block.proofs.read.Statement.{statement}
 use Rattle.block.proofs.read.Tie as tie
 
 returns : tie.Need-returns
-unfolding stateAt
+unfolding stateAt longs
 returns c =
     let a = c .before .before .before in
     let p = a .before .before .before in

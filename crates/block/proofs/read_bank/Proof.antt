@@ -8,6 +8,7 @@ use Prim.Native.Nat.{_≤_, _<_, _-_}
 use lib.ListN.{length, take, length-set}
 use lib.Seq.{take-suc-set, take-all}
 use Rattle.block.specs.Block.{longs}
+use Rattle.block.proofs.Longs.{longs-more}
 use Rattle.block.proofs.read_bank.Statement.{statement}
 use Rattle.block.proofs.read_bank.Tie as tie
 
@@ -28,7 +29,7 @@ loop-again c =
     let h : l .i < length (l .b) = omega (arith, c .before .loop-test .taken, l .inv .1) in (
       omega (arith, c .before .loop-test .taken),
       simp length-set (l .inv .1),
-      rw (add-one, take-suc-set (l .b) (l .i) (c .long-at .result) h, l .inv .2, c .long-at .ensures),
+      rw (add-one, take-suc-set (l .b) (l .i) (c .long-at .result) h, l .inv .2, c .long-at .ensures, longs-more _ _ (l .i)),
     )
 
 returns : tie.Need-returns Inv-loop μ-loop

@@ -9,18 +9,18 @@ use Prim.Native.Nat.{ℕ, _%_, _≤_}
 use denote.Ref.{now}
 use lib.Dec.{leb, eqb}
 use lib.Seq.{length-take-le}
-use Rattle.memory.specs.Processor.{gpu}
+use Rattle.processor.specs.Processor.{gpu}
 use Rattle.rules.specs.Check.{isLength, checkOf}
 use Rattle.rules.proofs.Booleans.{and-l, and-r}
-use Rattle.rules.proofs.KnownRows.{known-rows}
-use Rattle.rules.specs.KnownRows.{KnownRows}
+use Rattle.known.proofs.KnownRows.{known-rows}
+use Rattle.known.specs.KnownRows.{KnownRows}
 use Rattle.rules.specs.Safety.{Demand3, Tells, GoesOn}
 use Rattle.rules.proofs.Examples.{gpu-demand3, gpu-tells, gpu-goes-on}
 use Rattle.loading.proofs.check.Statement.{statement}
 use Rattle.loading.proofs.check.Tie as tie
 
-most : (C : ℕ) → isLength gpu C ≡ true → C ≤ 4096
-most C e = leb-true C 4096 (and-l (leb C 4096) (eqb (C % 4) 0) (and-r (leb 4 C) (leb C 4096 && eqb (C % 4) 0) e))
+most : (C : ℕ) → isLength gpu C ≡ true → C ≤ gpu .size
+most C e = leb-true C (gpu .size) (and-l (leb C (gpu .size)) (eqb (C % 4) 0) (and-r (leb 4 C) (leb C (gpu .size) && eqb (C % 4) 0) e))
 
 admission : (Demand3 gpu × Tells gpu × GoesOn gpu) × KnownRows
 admission = ((gpu-demand3, gpu-tells, gpu-goes-on), known-rows)

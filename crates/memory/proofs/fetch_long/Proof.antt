@@ -1,9 +1,12 @@
 -- `fetch_long` meets its contract: one test of the first word's offset tells those of both words.
 -- Assumes nothing.
 use borrow.Author.Needs.{needs}
+use native.Mathlib.Omega.{arith}
 use mathlib.Core.Path.{_∙_, sym}
 use denote.Ref.{now}
-use Rattle.memory.proofs.Offsets.{odd-long, long, short}
+use Rattle.processor.specs.Processor.{gpu}
+use Rattle.processor.proofs.Instances.{gpu-sound}
+use Rattle.memory.proofs.Offsets.{long-inside, long-outside}
 use Rattle.memory.proofs.fetch_long.Statement.{statement}
 use Rattle.memory.proofs.fetch_long.Tie as tie
 
@@ -12,7 +15,8 @@ returns c =
     let w = c .before .before in
     let s = w .before .before in
     let f = c .before .offset .ensures in
-    sym (odd-long (s .args .pc) _ (f .0 ∙ w .wrapping-add-u32 .ensures) (f .1) (now (s .args .ram)) (s .pre) (c .if1 .taken))
+    let odd = c .if1 .taken in
+    sym (long-outside gpu gpu-sound (s .args .pc) _ (f .0 ∙ w .wrapping-add-u32 .ensures) (f .1) (now (s .args .ram)) (s .pre) (λ even l. omega (arith, odd, even)))
 
 returns-2 : tie.Need-returns-2
 returns-2 c =
@@ -20,15 +24,17 @@ returns-2 c =
     let w = i .before .before .before in
     let s = w .before .before in
     let f = i .before .before .offset .ensures in
+    let even = i .before .if1 .left in
     rw (c .word-at2 .ensures .0, c .before .word-at .ensures .0)
-    (sym (long (s .args .pc) _ (f .0 ∙ w .wrapping-add-u32 .ensures) (f .1) (now (s .args .ram)) (s .pre) (i .before .if1 .left) (i .if2 .taken)))
+    (sym (long-inside gpu gpu-sound (s .args .pc) _ (f .0 ∙ w .wrapping-add-u32 .ensures) (f .1) (now (s .args .ram)) (s .pre) (omega (arith, even)) (omega (arith, i .if2 .taken))))
 
 returns-3 : tie.Need-returns-3
 returns-3 c =
     let w = c .before .before .before in
     let s = w .before .before in
     let f = c .before .before .offset .ensures in
-    sym (short (s .args .pc) _ (f .0 ∙ w .wrapping-add-u32 .ensures) (f .1) (now (s .args .ram)) (s .pre) (c .if2 .left))
+    let past = c .if2 .left in
+    sym (long-outside gpu gpu-sound (s .args .pc) _ (f .0 ∙ w .wrapping-add-u32 .ensures) (f .1) (now (s .args .ram)) (s .pre) (λ even l. omega (arith, past, l, s .pre)))
 
 pub fetch-long-spec : {M : Type 1} → statement M
 fetch-long-spec =

@@ -4,7 +4,9 @@ use borrow.Author.Needs.{needs}
 use native.Mathlib.Omega.{arith}
 use mathlib.Core.Path.{_∙_, sym}
 use borrow.Author.Tests.{ne-eqb}
-use Rattle.memory.proofs.Offsets.{in-ram, in-registers}
+use Rattle.processor.specs.Processor.{gpu}
+use Rattle.processor.proofs.Instances.{gpu-sound}
+use Rattle.memory.proofs.Offsets.{ram-place, register-place}
 use Rattle.memory.proofs.locate.Statement.{statement}
 use Rattle.memory.proofs.locate.Tie as tie
 
@@ -13,12 +15,12 @@ returns c = rw (ne-eqb _ _ (c .if1 .taken))
 
 returns-2 : tie.Need-returns-2
 returns-2 c =
-    let f = c .before .offset .ensures in sym (in-ram _ _ (f .0) (f .1) (c .before .before .if1 .left) (omega (arith, c .if2 .taken)))
+    let f = c .before .offset .ensures in sym (ram-place gpu gpu-sound _ _ (f .0) (f .1) (c .before .before .if1 .left) (omega (arith, c .if2 .taken)))
 
 returns-3 : tie.Need-returns-3
 returns-3 c =
     let f = c .before .before .offset .ensures in
-    c .register-at .ensures ∙ sym (in-registers _ _ (f .0) (f .1) (c .before .before .before .if1 .left) (omega (arith, c .before .if2 .left)))
+    c .register-at .ensures ∙ sym (register-place gpu gpu-sound _ _ (f .0) (f .1) (c .before .before .before .if1 .left) (omega (arith, c .before .if2 .left)))
 
 pub locate-spec : {M : Type 1} → statement M
 locate-spec =

@@ -6,23 +6,23 @@ use lib.Seq.{drop-cons}
 use lib.ListN.{drop-of-length-le}
 use Rattle.scanner.proofs.Places.{told-line}
 use Rattle.text.specs.Bytes.{bytes}
-use Rattle.parser.specs.Readings.{cardOf}
+use Rattle.parser.specs.Readings.{cardReading}
 use Rattle.parser.proofs.rest_of_card.Statement.{statement}
 use Rattle.parser.proofs.rest_of_card.Tie as tie
 
 returns : tie.Need-returns
-unfolding cardOf bytes
+unfolding cardReading bytes
 returns c = rw (← told-line _ _ _ _ _ (c .before .before .hex-line .ensures), c .enum-told .given .1)
 
 returns-2 : tie.Need-returns-2
-unfolding cardOf bytes
+unfolding cardReading bytes
 returns-2 c =
     let flags = c .before .before in
     let pc = flags .before .before .before in
     rw (← told-line _ _ _ _ _ (pc .before .before .hex-line .ensures), pc .pc .given .1, ← told-line _ _ _ _ _ (flags .hex-line2 .ensures), c .enum-told2 .given .1)
 
 returns-3 : tie.Need-returns-3
-unfolding cardOf bytes
+unfolding cardReading bytes
 returns-3 c =
     let remain = c .before .before in
     let flags = remain .before .before .before in
@@ -30,7 +30,7 @@ returns-3 c =
     rw (← told-line _ _ _ _ _ (pc .before .before .hex-line .ensures), pc .pc .given .1, ← told-line _ _ _ _ _ (flags .before .before .hex-line2 .ensures), flags .fifth .given .1, ← told-line _ _ _ _ _ (remain .hex-line3 .ensures), c .enum-told3 .given .1)
 
 returns-4 : tie.Need-returns-4
-unfolding cardOf bytes
+unfolding cardReading bytes
 returns-4 c =
     let acc = c .before .before in
     let remain = acc .before .before .before in
@@ -39,7 +39,7 @@ returns-4 c =
     rw (← told-line _ _ _ _ _ (pc .before .before .hex-line .ensures), pc .pc .given .1, ← told-line _ _ _ _ _ (flags .before .before .hex-line2 .ensures), flags .fifth .given .1, ← told-line _ _ _ _ _ (remain .before .before .hex-line3 .ensures), remain .sixth .given .1, ← told-line _ _ _ _ _ (acc .hex-line4 .ensures), c .enum-told4 .given .1)
 
 returns-5 : tie.Need-returns-5
-unfolding cardOf bytes
+unfolding cardReading bytes
 returns-5 c =
     let acc = c .before .before in
     let remain = acc .before .before .before .before .before in
@@ -48,7 +48,7 @@ returns-5 c =
     rw (← told-line _ _ _ _ _ (pc .before .before .hex-line .ensures), pc .pc .given .1, ← told-line _ _ _ _ _ (flags .before .before .hex-line2 .ensures), flags .fifth .given .1, ← told-line _ _ _ _ _ (remain .before .before .hex-line3 .ensures), remain .sixth .given .1, ← told-line _ _ _ _ _ (acc .before .before .hex-line4 .ensures), acc .end .given .1, drop-cons {A = ℕ} _ _ 0 (c .if1 .taken))
 
 returns-6 : tie.Need-returns-6
-unfolding cardOf bytes
+unfolding cardReading bytes
 returns-6 c =
     let acc = c .before .before in
     let remain = acc .before .before .before .before .before in

@@ -6,14 +6,23 @@ use Rattle.ranges.proofs.allows.Tie as tie
 
 returns : tie.Need-returns
 returns c =
-    let r = c .before .before in
-    let b = r .before in
-    rw (c .both2 .ensures, c .before .either .ensures, r .is-register .ensures, b .both .ensures, b .before .is-inside2 .ensures, b .before .before .is-inside .ensures)
+    let o = c .before .before in
+    let b = o .before .before .before in
+    rw (
+      c .both3 .ensures,
+      c .before .either .ensures,
+      o .both2 .ensures,
+      o .before .is-register .ensures,
+      b .both .ensures,
+      b .before .is-inside2 .ensures,
+      b .before .before .is-inside .ensures,
+    )
 
 pub allows-spec : {M : Type 1} → statement M
 allows-spec =
     tie.close
     (tie.spec
+    (λ c κs. search needs)
     (λ c κs. search needs)
     (λ c κs. search needs)
     (λ c κs. search needs)

@@ -3,20 +3,20 @@
 use borrow.Author.Needs.{needs}
 use native.Mathlib.Omega.{arith}
 use mathlib.Core.Path.{_∙_, sym}
-use Rattle.memory.specs.Processor.{gpu}
-use Rattle.memory.proofs.Places.{ram-holds, gpu-sound}
+use Rattle.processor.specs.Processor.{gpu}
+use Rattle.processor.proofs.Instances.{gpu-sound}
+use Rattle.memory.proofs.Places.{ram-holds}
 use Rattle.transfers.proofs.load.Statement.{statement}
 use Rattle.transfers.proofs.load.Tie as tie
 
 long-at-requires : tie.Need-long-at-requires
-long-at-requires c κs =
-    omega (arith, ram-holds gpu gpu-sound (c .before .before .before .before .before .args .address) _ (sym (c .before .before .before .locate .ensures) ∙ c .before .p .given .1))
+long-at-requires c κs = omega (arith, ram-holds gpu gpu-sound (c .before .before .before .before .before .args .address) _ (sym (c .before .before .before .locate .ensures) ∙ c .before .p .given .1))
 
 returns : tie.Need-returns
 returns c = rw (c .long-at .ensures, ← c .before .before .before .before .locate .ensures, c .before .before .p .given .1)
 
 returns-2 : tie.Need-returns-2
-returns-2 c = rw (c .flag-word .ensures, ← c .before .before .before .before .locate .ensures, c .before .before .enum-told .given .1)
+returns-2 c = rw (c .flag-register .ensures, ← c .before .before .before .locate .ensures, c .before .enum-told .given .1)
 
 returns-3 : tie.Need-returns-3
 returns-3 c = rw (← c .before .before .locate .ensures, c .enum-told2 .given .1)

@@ -3,9 +3,10 @@
 use borrow.Author.Needs.{needs}
 use mathlib.Core.Path.{_∙_, ap}
 use denote.Ref.{now}
-use Rattle.memory.specs.Processor.{gpu}
+use Rattle.processor.specs.Processor.{gpu}
+use Rattle.core.specs.Machine.{lent}
 use Rattle.machine.specs.Run.{runOf}
-use Rattle.card.specs.Image.{printedOf, printedFrom}
+use Rattle.card.specs.Image.{imageBudget, printedOf, printedFrom}
 use Rattle.card.proofs.image.print.Statement.{statement}
 use Rattle.card.proofs.image.print.Tie as tie
 
@@ -17,7 +18,7 @@ returns c =
     let a = s .before .before .before .args in
     rw (c .write .ensures .counted, c .write .ensures .stored, c .before .before .told .ensures)
     (ap (λ t. printedFrom t (now (a .out))) (r .run .ensures .0)
-    ∙ ap (λ t. printedFrom (runOf gpu (now (a .ram)) t 1000000) (now (a .out))) (s .start .ensures))
+    ∙ ap (λ t. printedFrom (runOf gpu (lent (now (a .ram))) t imageBudget) (now (a .out))) (s .start .ensures))
 
 pub print-spec : {M : Type 1} → statement M
 print-spec =

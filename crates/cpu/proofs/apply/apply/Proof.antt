@@ -1,13 +1,7 @@
 -- `apply` meets its contract: each arm of the match is a line of the definition.
 -- Assumes nothing.
 use borrow.Author.Needs.{needs}
-use mathlib.Core.Path.{_∙_, ap}
-use denote.Ref.{now}
-use Rattle.state.specs.declared.Activity.the-variants as A
-use Rattle.transfers.specs.Loop.{running}
-use Rattle.transfers.specs.Transfers.{doneOf, viewFrom}
-use Rattle.cpu.specs.Step.{inActive, applyOf}
-use Rattle.state.specs.State.{withFlags}
+use Rattle.cpu.specs.Step.{applyOf}
 use Rattle.cpu.proofs.apply.apply.Statement.{statement}
 use Rattle.cpu.proofs.apply.apply.Tie as tie
 
@@ -21,7 +15,7 @@ returns-2 c = rw (c .done .ensures, c .before .enum-told .given .1)
 
 returns-3 : tie.Need-returns-3
 unfolding applyOf
-returns-3 c = rw (c .done2 .ensures ∙ ap doneOf (c .before .with-flags .ensures A.Running), c .before .before .flags .ensures, c .before .before .before .put .ensures, c .before .before .before .before .before .before .e2 .given .1)
+returns-3 c = rw (c .done2 .ensures, c .before .with-flags .ensures, c .before .before .flags .ensures, c .before .before .before .put .ensures, c .before .before .before .before .before .before .e2 .given .1)
 
 returns-4 : tie.Need-returns-4
 unfolding applyOf
@@ -29,19 +23,19 @@ returns-4 c = rw (c .done3 .ensures, c .before .put2 .ensures, c .before .before
 
 returns-5 : tie.Need-returns-5
 unfolding applyOf
-returns-5 c = rw (c .done4 .ensures ∙ ap doneOf (c .before .with-flags2 .ensures A.Running), c .before .before .before .e4 .given .1)
+returns-5 c = rw (c .done4 .ensures, c .before .with-flags2 .ensures, c .before .before .before .e4 .given .1)
 
 returns-6 : tie.Need-returns-6
 unfolding applyOf
-returns-6 c = rw (c .done5 .ensures ∙ ap doneOf (c .before .with-remainder .ensures A.Running), c .before .before .put3 .ensures, c .before .before .before .before .before .e5 .given .1)
+returns-6 c = rw (c .done5 .ensures, c .before .with-remainder .ensures, c .before .before .put3 .ensures, c .before .before .before .before .before .e5 .given .1)
 
 returns-7 : tie.Need-returns-7
 unfolding applyOf
-returns-7 c = rw (c .done6 .ensures ∙ ap doneOf (c .before .with-flags3 .ensures A.Running ∙ ap (λ k. withFlags k (c .before .before .flags2 .result)) (c .before .before .before .with-accumulator .ensures A.Running)), c .before .before .flags2 .ensures, c .before .before .before .before .before .e6 .given .1)
+returns-7 c = rw (c .done6 .ensures, c .before .with-flags3 .ensures, c .before .before .flags2 .ensures, c .before .before .before .with-accumulator .ensures, c .before .before .before .before .before .e6 .given .1)
 
 returns-8 : tie.Need-returns-8
 unfolding applyOf
-returns-8 c = rw (c .done7 .ensures ∙ ap doneOf (c .before .with-accumulator2 .ensures A.Running), c .before .before .before .e7 .given .1)
+returns-8 c = rw (c .done7 .ensures, c .before .with-accumulator2 .ensures, c .before .before .before .e7 .given .1)
 
 returns-9 : tie.Need-returns-9
 unfolding applyOf
@@ -53,15 +47,11 @@ returns-10 c = rw (c .done9 .ensures, c .before .put5 .ensures, c .before .befor
 
 returns-11 : tie.Need-returns-11
 unfolding applyOf
-returns-11 c =
-    let a = c .before .before .before .before .before .before .before .args in
-    rw (c .before .before .before .before .e10 .given .1) (ap (λ w. inActive w (viewFrom (now (a .a)) (now (a .o)) (running (a .k))) (now (a .ram))) (c .move-immediate .ensures))
+returns-11 c = rw (c .before .before .before .before .before .before .e10 .given .1, ← c .before .immediate .ensures, ← c .before .before .before .skipped .ensures) (c .receive-next .ensures _ _)
 
 returns-12 : tie.Need-returns-12
 unfolding applyOf
-returns-12 c =
-    let a = c .before .before .before .before .before .before .args in
-    rw (c .before .before .before .e11 .given .1) (ap (λ w. inActive w (viewFrom (now (a .a)) (now (a .o)) (running (a .k))) (now (a .ram))) (c .move-counter .ensures))
+returns-12 c = rw (c .before .before .before .before .e11 .given .1, ← c .before .counter .ensures) (c .receive .ensures _ _)
 
 returns-13 : tie.Need-returns-13
 unfolding applyOf
@@ -69,9 +59,7 @@ returns-13 c = rw (c .jump .ensures, c .before .before .e12 .given .1)
 
 returns-14 : tie.Need-returns-14
 unfolding applyOf
-returns-14 c =
-    let a = c .before .before .before .before .before .before .before .args in
-    rw (c .before .before .before .before .e13 .given .1) (ap (λ t. inActive t (viewFrom (now (a .a)) (now (a .o)) (running (a .k))) (now (a .ram))) (c .move-loaded .ensures))
+returns-14 c = rw (c .before .before .before .before .before .e13 .given .1, ← c .before .load .ensures) (c .receive2 .ensures _ _)
 
 returns-15 : tie.Need-returns-15
 unfolding applyOf
@@ -117,11 +105,15 @@ apply-spec =
     (λ c κs. search needs)
     (λ c. search needs)
     (λ c κs. search needs)
+    (λ c κs. search needs)
+    (λ c κs. search needs)
     (λ c. search needs)
+    (λ c κs. search needs)
     (λ c κs. search needs)
     (λ c. search needs)
     (λ c κs. search needs)
     (λ c. search needs)
+    (λ c κs. search needs)
     (λ c κs. search needs)
     (λ c. search needs)
     (λ c κs. search needs)

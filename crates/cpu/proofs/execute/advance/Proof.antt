@@ -1,10 +1,9 @@
--- `advance` meets its contract: the length is known and the machine runs; the word is there, or the one refusal of a fetch.
+-- `advance` meets its contract: the word is there, or the one refusal of a fetch.
 -- Assumes nothing.
 use borrow.Author.Needs.{needs}
-use borrow.Author.Tests.{eq-eqb}
 use mathlib.Core.Path.{_∙_, sym}
 use denote.Ref.{now}
-use Rattle.memory.specs.Processor.{gpu}
+use Rattle.processor.specs.Processor.{gpu}
 use Rattle.memory.proofs.Refusals.{counter-alone}
 use Rattle.cpu.specs.Step.{advanceOf}
 use Rattle.cpu.proofs.execute.advance.Statement.{statement}
@@ -17,14 +16,11 @@ returns c =
     let s = l .before .before .before in
     let told = c .before .enum-told .given .1 in
     let alone = counter-alone gpu (now (s .args .ram)) (s .args .k .pc) _ (sym (l .fetch .ensures) ∙ told) in
-    rw (c .fault .ensures, eq-eqb _ _ (s .pre), ← l .fetch .ensures, told, alone)
+    rw (c .fault .ensures, ← l .fetch .ensures, told, alone)
 
 returns-2 : tie.Need-returns-2
 unfolding advanceOf
-returns-2 c =
-    let w = c .before .before .before .before .before .before .before in
-    let l = w .before .before in
-    c .before .before .execute .ensures ∙ rw (eq-eqb _ _ (l .before .before .before .pre), ← l .fetch .ensures, w .w .given .1)
+returns-2 c = c .before .before .execute .ensures ∙ rw (← c .before .before .before .before .before .before .before .before .before .fetch .ensures, c .before .before .before .before .before .before .before .w .given .1)
 
 pub advance-spec : {M : Type 1} → statement M
 advance-spec =

@@ -8,9 +8,7 @@ use Rattle.cpu.proofs.execute.execute.Tie as tie
 
 returns : tie.Need-returns
 unfolding executeOf
-returns c =
-    let e = c .before .before .before .before .before .before in
-    c .before .before .apply .ensures ∙ rw (e .effect-at .ensures, e .before .before .operands-of .ensures)
+returns c = c .before .before .apply .ensures ∙ rw (c .before .before .before .before .before .before .effect-at .ensures, c .before .before .before .before .before .before .before .before .operands-of .ensures)
 
 pub execute-spec : {M : Type 1} → statement M
 execute-spec =

@@ -5,7 +5,7 @@ use Rattle.machine.proofs.State.flag_register.Statement.{statement}
 use Rattle.machine.proofs.State.flag_register.Tie as tie
 
 returns : tie.Need-returns
-returns c = rw (c .flag-word .ensures, c .before .before .inner .ensures)
+returns c = rw (c .flag-register .ensures, c .before .core .ensures)
 
 pub flag-register-spec : {M : Type 1} → statement M
 flag-register-spec =

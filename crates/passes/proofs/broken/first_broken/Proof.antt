@@ -6,24 +6,24 @@ use native.Mathlib.Omega.{arith}
 use mathlib.Core.Path.{sym, subst, _∙_, ap}
 use Prim.Native.Nat.{_-_}
 use lib.ListN.{length}
-use Rattle.memory.specs.Processor.{gpu}
+use Rattle.processor.specs.Processor.{gpu}
 use Rattle.rules.specs.declared.Item.{Item}
 use Rattle.rules.specs.declared.Item.the-variants.{Unbuilt}
 use Rattle.rules.specs.Reading.{bytesOf, before}
 use Rattle.passes.specs.Passes.{testOf}
-use Rattle.reading.proofs.Came.{Came, came-first, came-on, came-hit, came-past}
+use Rattle.reading.proofs.Pass.{PassAt, pass-first, pass-on, pass-hit, pass-past}
 use Rattle.reading.proofs.Offsets.{item-at}
 use Rattle.passes.proofs.broken.first_broken.Statement.{statement}
 use Rattle.passes.proofs.broken.first_broken.Tie as tie
 
 abbrev Inv-loop : tie.InvT-loop
-Inv-loop rule code starts targets i₀ p₀ i p = Came code Item Unbuilt (before gpu code) (testOf code rule) i p
+Inv-loop rule code starts targets i₀ p₀ i p = PassAt gpu code Item Unbuilt (before gpu code) (testOf gpu code rule) i p
 
 abbrev μ-loop : tie.MeasureT-loop
 μ-loop rule code starts targets i₀ p₀ i p = length code - i
 
 loop-holds : tie.Need-loop-holds Inv-loop μ-loop
-loop-holds c = came-first _ _ _ _ _
+loop-holds c = pass-first _ _ _ _ _ _
 
 item-at-requires : tie.Need-item-at-requires Inv-loop μ-loop
 item-at-requires c κs = omega (arith, c .loop-test .taken, c .before .before .before .pre .0)
@@ -42,7 +42,7 @@ cast-address c =
 returns : tie.Need-returns Inv-loop μ-loop
 returns c =
     let l = c .before .before .before .before .loop in
-    sym (came-hit _ _ _ _ _ _ (l .p) (l .inv) (c .before .before .before .loop-test .taken) (rw (← c .before .obeys .ensures) (not-true _ (c .if1 .taken))))
+    sym (pass-hit _ _ _ _ _ _ _ (l .p) (l .inv) (c .before .before .before .loop-test .taken) (rw (← c .before .obeys .ensures) (not-true _ (c .if1 .taken))))
 
 shape-of-requires : tie.Need-shape-of-requires Inv-loop μ-loop
 shape-of-requires c κs = search needs
@@ -65,12 +65,12 @@ loop-again c =
     let t = c .before .before .before .before in
     let l = t .before in
     let g = t .item-at .ensures in
-    subst (Came _ _ _ _ _ _) (item-at _ _ ∙ sym g)
-    (came-on _ _ _ _ _ _ (l .before .loop .p) _ (l .before .loop .inv) (l .loop-test .taken) g _ (c .size .ensures .0 ∙ ap bytesOf (c .before .shape-of .ensures))
+    subst (PassAt _ _ _ _ _ _ _) (item-at gpu _ _ ∙ sym g)
+    (pass-on _ _ _ _ _ _ _ (l .before .loop .p) _ (l .before .loop .inv) (l .loop-test .taken) g _ (c .size .ensures .0 ∙ ap bytesOf (c .before .shape-of .ensures))
     (rw (← c .before .before .before .obeys .ensures) (not-false _ (c .before .before .if1 .left))))
 
 returns-2 : tie.Need-returns-2 Inv-loop μ-loop
-returns-2 c = let l = c .before .loop in sym (came-past _ _ _ _ _ _ (l .p) (l .inv) (c .loop-test .left))
+returns-2 c = let l = c .before .loop in sym (pass-past _ _ _ _ _ _ _ (l .p) (l .inv) (c .loop-test .left))
 
 pub first-broken-spec : {M : Type 1} → statement M
 first-broken-spec =

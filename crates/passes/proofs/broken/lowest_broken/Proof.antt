@@ -5,20 +5,21 @@ use Prim.Native.Nat.{_-_}
 use mathlib.Core.Path.{sym, subst, _∙_, ap}
 use native.Mathlib.Omega.{arith}
 use lib.ListN.{length}
+use Rattle.processor.specs.Processor.{gpu}
 use Rattle.rules.specs.Reading.{bytesOf}
-use Rattle.passes.proofs.Lowest.{Lowest, lowest-of, lowest-is}
+use Rattle.passes.proofs.Lowest.{LowestFailing, lowest-of, lowest-is}
 use Rattle.passes.proofs.Least.{Least, least-first, least-on, least-past}
 use Rattle.passes.proofs.broken.lowest_broken.Statement.{statement}
 use Rattle.passes.proofs.broken.lowest_broken.Tie as tie
 
 abbrev Inv-loop : tie.InvT-loop
-Inv-loop code starts targets i₀ p₀ limit₀ i p limit = Least code i p limit
+Inv-loop code starts targets i₀ p₀ limit₀ i p limit = Least gpu code i p limit
 
 abbrev μ-loop : tie.MeasureT-loop
 μ-loop code starts targets i₀ p₀ limit₀ i p limit = length code - i
 
 loop-holds : tie.Need-loop-holds Inv-loop μ-loop
-loop-holds c = least-first _
+loop-holds c = least-first _ _
 
 item-at-requires : tie.Need-item-at-requires Inv-loop μ-loop
 item-at-requires c κs = omega (arith, c .loop-test .taken, c .before .before .before .pre .0)
@@ -47,11 +48,11 @@ loop-again c =
     let t = c .before .before .before in
     let l = t .before in
     let h = c .before .before .lowest-here .ensures in
-    least-on _ _ (l .before .loop .inv) (subst (Lowest _ 1 _) (sym h) (lowest-of _ _ (l .before .loop .inv .one))) (l .loop-test .taken) (t .item-at .ensures) _
+    least-on _ _ _ (l .before .loop .inv) (subst (LowestFailing _ 1 _) (sym h) (lowest-of _ _ (l .before .loop .inv .one))) (l .loop-test .taken) (t .item-at .ensures) _
     (c .size .ensures .0 ∙ ap bytesOf (c .before .shape-of .ensures))
 
 returns : tie.Need-returns Inv-loop μ-loop
-returns c = lowest-is _ (least-past _ (c .before .loop .inv) (c .loop-test .left))
+returns c = lowest-is _ (least-past _ _ (c .before .loop .inv) (c .loop-test .left))
 
 pub lowest-broken-spec : {M : Type 1} → statement M
 lowest-broken-spec =

@@ -7,6 +7,7 @@ use native.Mathlib.Omega.{arith}
 use borrow.Author.Tests.{not-true, not-false, ltb-true, ltb-false}
 use denote.Ref.{now}
 use lib.Dec.{ltb}
+use Rattle.processor.specs.Processor.{gpu}
 use Rattle.rules.proofs.Booleans.{by}
 use Rattle.passes.specs.Passes.{testOf}
 use Rattle.passes.proofs.Lowest.{lowest-is}
@@ -15,7 +16,7 @@ use Rattle.passes.proofs.broken.lowest_here.Tie as tie
 
 abbrev Inv-loop : tie.InvT-loop
 Inv-loop limit code starts targets i p t rule₀ rule =
-    (1 ≤ rule) × (rule ≤ limit) × ((n : ℕ) → 1 ≤ n → n < rule → testOf code n (0xF03000 + i) p ≡ true)
+    (1 ≤ rule) × (rule ≤ limit) × ((n : ℕ) → 1 ≤ n → n < rule → testOf gpu code n (gpu .base + i) p ≡ true)
 
 abbrev μ-loop : tie.MeasureT-loop
 μ-loop limit code starts targets i p t rule₀ rule = limit - rule
@@ -52,7 +53,7 @@ loop-again c =
       omega (arith, h),
       λ n a b. by (ltb n (l .rule))
           (λ t. l .inv .2 n a (ltb-true n (l .rule) t))
-          (λ t. let e : l .rule ≡ n = omega (arith, b, ltb-false n (l .rule) t) in subst (λ m. testOf (now (s .args .code)) m (0xF03000 + s .args .i) (s .args .p) ≡ true) e (sym (c .before .obeys .ensures) ∙ not-false _ (c .if1 .left))),
+          (λ t. let e : l .rule ≡ n = omega (arith, b, ltb-false n (l .rule) t) in subst (λ m. testOf gpu (now (s .args .code)) m (gpu .base + s .args .i) (s .args .p) ≡ true) e (sym (c .before .obeys .ensures) ∙ not-false _ (c .if1 .left))),
     )
 
 returns-2 : tie.Need-returns-2 Inv-loop μ-loop

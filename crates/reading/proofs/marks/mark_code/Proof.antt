@@ -7,12 +7,12 @@ use mathlib.Core.Bool.{_||_}
 use mathlib.Core.Logic.{inl, inr}
 use lib.Dec.{eqb}
 use lib.ListN.{length}
-use Rattle.memory.specs.Processor.{gpu}
+use Rattle.processor.specs.Processor.{gpu}
 use Rattle.rules.specs.declared.Item.{Item}
 use Rattle.rules.specs.declared.Item.the-variants.{Unbuilt}
 use Rattle.rules.specs.Reading.{shapeOf, shapeAt, bytesOf, before}
 use Rattle.rules.specs.Check.{leads, isStart, isTarget}
-use Rattle.reading.specs.Marks.{Near, markAt}
+use Rattle.reading.specs.Marks.{markCount, Near, markAt}
 use Rattle.reading.proofs.Offsets.{item-at}
 use Rattle.reading.proofs.Marking.{Marked, marked-first, marked-on, marked-carry, marked-past, mark-at, length-mark}
 use Rattle.reading.proofs.marks.mark_code.Statement.{statement}
@@ -21,10 +21,10 @@ use Rattle.reading.proofs.marks.mark_code.Tie as tie
 abbrev Inv-loop : tie.InvT-loop
 Inv-loop code starts₀ targets₀ i₀ p₀ starts targets i p =
     (i ≤ length code + 5)
-    × (length starts ≡ 4104)
-    × (length targets ≡ 4104)
-    × Marked code Item Unbuilt (before gpu code) (λ t a y. eqb a t) (λ t. Unit) i p starts
-    × Marked code Item Unbuilt (before gpu code) (λ t a y. leads a (shapeOf y) (shapeAt gpu code a) t) Near i p targets
+    × (length starts ≡ markCount gpu)
+    × (length targets ≡ markCount gpu)
+    × Marked gpu code Item Unbuilt (before gpu code) (λ t a y. eqb a t) (λ t. Unit) i p starts
+    × Marked gpu code Item Unbuilt (before gpu code) (λ t a y. leads a (shapeOf y) (shapeAt gpu code a) t) (Near gpu) i p targets
 
 abbrev μ-loop : tie.MeasureT-loop
 μ-loop code starts₀ targets₀ i₀ p₀ starts targets i p = length code + 6 - i
@@ -35,8 +35,8 @@ loop-holds c =
       omega arith,
       ap length (e .1),
       ap length (e .2),
-      subst (Marked _ _ _ _ _ _ 0 Unbuilt) (sym (e .1)) (marked-first _ _ _ _ _ _ 4104),
-      subst (Marked _ _ _ _ _ _ 0 Unbuilt) (sym (e .2)) (marked-first _ _ _ _ _ _ 4104),
+      subst (Marked _ _ _ _ _ _ _ 0 Unbuilt) (sym (e .1)) (marked-first _ _ _ _ _ _ _ (markCount gpu)),
+      subst (Marked _ _ _ _ _ _ _ 0 Unbuilt) (sym (e .2)) (marked-first _ _ _ _ _ _ _ (markCount gpu)),
     )
 
 item-at-requires : tie.Need-item-at-requires Inv-loop μ-loop
@@ -66,19 +66,19 @@ loop-again c =
     let e = m .set-mark .ensures in
     let f = c .before .set-mark2 .ensures in (
       omega arith,
-      ap length e ∙ length-mark (l .starts) (0xF03000 + l .i) ∙ l .inv .1,
-      ap length f ∙ length-mark (l .targets) (v .result) ∙ l .inv .2,
-      marked-carry _ _ _ _ _ _ _ _ (item-at _ (l .i) ∙ sym g)
-          (marked-on _ _ _ _ _ _ (l .i) (l .p) (l .starts) _ _ (l .inv .3) h g _ z
-          (λ t s. ap (λ n. markAt n t) e ∙ mark-at (l .starts) (0xF03000 + l .i) t (l .inv .1) (inl (record { low = omega arith; high = omega arith })))),
-      marked-carry _ _ _ _ _ _ _ _ (item-at _ (l .i) ∙ sym g)
-          (marked-on _ _ _ _ _ _ (l .i) (l .p) (l .targets) _ _ (l .inv .4) h g _ z
+      ap length e ∙ length-mark gpu (l .starts) (gpu .base + l .i) ∙ l .inv .1,
+      ap length f ∙ length-mark gpu (l .targets) (v .result) ∙ l .inv .2,
+      marked-carry _ _ _ _ _ _ _ _ _ (item-at gpu _ (l .i) ∙ sym g)
+          (marked-on _ _ _ _ _ _ _ (l .i) (l .p) (l .starts) _ _ (l .inv .3) h g _ z
+          (λ t s. ap (λ n. markAt gpu n t) e ∙ mark-at gpu (l .starts) (gpu .base + l .i) t (l .inv .1) (inl (record { low = omega arith; high = omega arith })))),
+      marked-carry _ _ _ _ _ _ _ _ _ (item-at gpu _ (l .i) ∙ sym g)
+          (marked-on _ _ _ _ _ _ _ (l .i) (l .p) (l .targets) _ _ (l .inv .4) h g _ z
           (λ t s.
-          ap (λ n. markAt n t) f ∙ mark-at (l .targets) (v .result) t (l .inv .2) (inr s)
-          ∙ ap (λ b. markAt (l .targets) t || b)
+          ap (λ n. markAt gpu n t) f ∙ mark-at gpu (l .targets) (v .result) t (l .inv .2) (inr s)
+          ∙ ap (λ b. markAt gpu (l .targets) t || b)
           (v .ensures .target t s
-          ∙ ap (λ q. leads (0xF03000 + l .i) q (k .shape-of .result) t) (c .before .before .before .shape-of2 .ensures)
-          ∙ ap (λ q. leads (0xF03000 + l .i) (shapeOf (l .p)) q t) (k .shape-of .ensures ∙ ap shapeOf (g ∙ sym (item-at _ (l .i))))))),
+          ∙ ap (λ q. leads (gpu .base + l .i) q (k .shape-of .result) t) (c .before .before .before .shape-of2 .ensures)
+          ∙ ap (λ q. leads (gpu .base + l .i) (shapeOf (l .p)) q t) (k .shape-of .ensures ∙ ap shapeOf (g ∙ sym (item-at gpu _ (l .i))))))),
     )
 
 returns : tie.Need-returns Inv-loop μ-loop
@@ -86,8 +86,8 @@ unfolding isStart isTarget
 returns c =
     let l = c .before .loop in
     let h = c .loop-test .left in (
-      record { starts = λ t. marked-past _ _ _ _ _ _ (l .i) (l .p) (l .starts) (l .inv .3) h t tt },
-      record { targets = λ t s. marked-past _ _ _ _ _ _ (l .i) (l .p) (l .targets) (l .inv .4) h t s },
+      record { starts = λ t. marked-past _ _ _ _ _ _ _ (l .i) (l .p) (l .starts) (l .inv .3) h t tt },
+      record { targets = λ t s. marked-past _ _ _ _ _ _ _ (l .i) (l .p) (l .targets) (l .inv .4) h t s },
     )
 
 pub mark-code-spec : {M : Type 1} → statement M

@@ -6,7 +6,7 @@ use Rattle.shifter.proofs.saturate.saturated.Statement.{statement}
 use Rattle.shifter.proofs.saturate.saturated.Tie as tie
 
 returns : tie.Need-returns
-returns c = simp (c .held .ensures, c .before .signed .ensures, ofZ-toZ (c .before .before .fits .d))
+returns c = simp (c .clamp .ensures, c .before .signed .ensures, ofZ-toZ (c .before .before .fits .d))
 
 pub saturated-spec : {M : Type 1} → statement M
 saturated-spec =

@@ -5,7 +5,7 @@ use native.Mathlib.Omega.{arith}
 use mathlib.Core.Path.{ap}
 use Prim.Native.Nat.{ℕ, _-_, _/_, _%_, _^_}
 use Rattle.values.specs.Results.{computedOf}
-use Rattle.shifter.proofs.Rotations.{rotated}
+use Rattle.shifter.proofs.Shifts.{rotated}
 use Rattle.shifter.proofs.shift.rotate.Statement.{statement}
 use Rattle.shifter.proofs.shift.rotate.Tie as tie
 

@@ -9,12 +9,12 @@ use Rattle.values.proofs.signed.signed.Statement.{statement}
 use Rattle.values.proofs.signed.signed.Tie as tie
 
 sub-result-2 : tie.Need-sub-result-2
-sub-result-2 c = less-fits (4294967295 - c .before .args .x) (omega arith)
+sub-result-2 c = less-fits w32 (4294967295 - c .before .args .x) (omega arith)
 
 returns-2 : tie.Need-returns-2
 returns-2 c =
     let x = c .before .args .x in
-    less-is (4294967295 - x) (omega arith) w32 x (c .if1 .left) (omega arith)
+    less-is w32 (4294967295 - x) (omega arith) x (c .if1 .left) (omega arith)
 
 pub signed-spec : {M : Type 1} → statement M
 signed-spec =
