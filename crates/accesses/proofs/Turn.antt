@@ -9,21 +9,22 @@ use native.Mathlib.Omega.{arith}
 use lib.ListN.{length, getD, set}
 use Rattle.class.specs.declared.Class.{Class}
 use Rattle.processor.specs.Processor.{Processor}
-use Rattle.rules.specs.declared.Item.{Item}
-use Rattle.rules.specs.declared.Item.the-variants.{Unbuilt, Built}
-use Rattle.rules.specs.declared.Range.{Range}
-use Rattle.rules.specs.declared.Shape.{Shape}
-use Rattle.rules.specs.Reading.{shapeIn, shapeOf, bytesOf}
-use Rattle.rules.specs.Known.{full, unknown, rangeAt, transfer, transferOf}
+use Rattle.items.specs.declared.Item.{Item}
+use Rattle.items.specs.declared.Item.the-variants.{Unbuilt, Built}
+use Rattle.ranges.specs.declared.Range.{Range}
+use Rattle.items.specs.declared.Shape.{Shape}
+use Rattle.items.specs.Items.{shapeIn, shapeOf, bytesOf}
+use Rattle.ranges.specs.Ranges.{full, unknown, rangeAt}
+use Rattle.rules.specs.Known.{transfer, transferOf}
 use Rattle.rules.specs.Check.{accessOk, isTarget, learn, ok6}
-use Rattle.ranges.specs.declared.Uses.{Uses}
-use Rattle.ranges.specs.InPlace.{usesOf, rangeAfter, accessOf, forgetsOf}
+use Rattle.transfer.specs.declared.Uses.{Uses}
+use Rattle.transfer.specs.InPlace.{usesOf, rangeAfter, accessOf, forgetsOf}
 use Rattle.ranges.specs.Ordered.{Ordered, AllOrdered}
 use Rattle.ranges.proofs.Orders.{at-register, no-register}
-use Rattle.ranges.proofs.InPlace.{in-place}
+use Rattle.transfer.proofs.InPlace.{in-place}
 use Rattle.reading.specs.Places.{Here}
 use Rattle.reading.proofs.Offsets.{item-here}
-use Rattle.accesses.specs.Items.{classIn, longIn}
+use Rattle.items.specs.Items.{classIn, longIn}
 
 -- a range that was read where there is such a register, and is full where there is none
 pub range-read : {k : List Range} → AllOrdered k → {r : ℕ} {x : Range} (d : Range) → ((r < 32) × (x ≡ getD k r d)) ⊎ ((32 ≤ r) × (x ≡ full)) → (x ≡ rangeAt k r) × Ordered x

@@ -5,40 +5,22 @@ ghost use lib.ListN.{length};
 ghost use Rattle.processor.specs.Processor.{gpu};
 ghost use Rattle.rules.specs.Check.{firstAccess};
 ghost use Rattle.reading.specs.Marks.{MarksTargets};
-ghost use Rattle.accesses.specs.Items.{classIn, longIn};
-use class::Class;
+ghost use Rattle.items.specs.Items.{classIn, longIn};
+use items::class_in;
+use items::item_at;
+use items::long_in;
+use items::shape_of;
+use items::size;
 use processor::Gpu;
-use ranges::access;
 use ranges::anything;
-use ranges::forgets;
-use ranges::range_after;
 use ranges::unknown_all;
-use ranges::uses_of;
 use reading::MARKS;
 use reading::is_target;
-use reading::item_at;
-use reading::shape_of;
-use reading::size;
-use rules::Hit;
-use rules::Item;
-
-fn class_in(t: Item) -> Class
-    ensures { λ r. ⌜ r ≡ classIn t ⌝ }
-{
-    match t {
-        Item::Unbuilt => Class::Quiet,
-        Item::Built(c, _) => c,
-    }
-}
-
-fn long_in(t: Item) -> u32
-    ensures { λ r. ⌜ r ≡ longIn t ⌝ }
-{
-    match t {
-        Item::Unbuilt => 0,
-        Item::Built(_, v) => v,
-    }
-}
+use transfer::access;
+use transfer::forgets;
+use transfer::range_after;
+use transfer::uses_of;
+use verdicts::Hit;
 
 // The first address at which rule 6 is broken.
 pub fn first_access(code: &[u8], targets: &[bool; MARKS]) -> Hit

@@ -18,11 +18,11 @@ use Rattle.machine.specs.declared.State.{State}
 use Rattle.machine.specs.State.{IsState}
 use Rattle.machine.specs.Run.{budgetLimit, refused, runOf}
 use Rattle.machine.proofs.Laws.{refused-budget, left}
-use Rattle.rules.specs.declared.Verdict.{Verdict}
-use Rattle.rules.specs.declared.Verdict.the-variants.{Admitted, RamLength, CodeLength, Broken}
+use Rattle.verdicts.specs.declared.Verdict.{Verdict}
+use Rattle.verdicts.specs.declared.Verdict.the-variants.{Admitted, RamLength, CodeLength, Broken}
 use Rattle.rules.specs.Rules.{IsStart}
 use Rattle.rules.specs.Safety.{Loaded, afterRuns, Kept, Safe}
-use Rattle.rules.proofs.Booleans.{by}
+use Rattle.values.proofs.Booleans.{by}
 use Rattle.rules.proofs.Examples.{gpu-goes-on}
 use Rattle.block.specs.Block.{blockLength, pcIndex, blockLong, longs, isValid, stateAt, putState}
 use Rattle.block.proofs.Restored.{state-back, state-length, state-valid}

@@ -7,8 +7,8 @@ use lib.ListN.{length}
 use Rattle.processor.specs.Processor.{gpu}
 use Rattle.answers.specs.Answers.{numberOf}
 use Rattle.answers.specs.declared.Answer.the-variants.{RamLength, BudgetLimit, BlockRule, BlockLength}
-use Rattle.rules.specs.declared.Verdict.{Verdict}
-use Rattle.rules.specs.Verdicts as verdicts
+use Rattle.verdicts.specs.declared.Verdict.{Verdict}
+use Rattle.verdicts.specs.Verdicts as verdicts
 use Rattle.core.specs.Machine.{Memory}
 use Rattle.machine.specs.Run.{Result, runOf, budgetLimit}
 use Rattle.block.specs.Block.{blockLength, isValid, stateAt, putState}

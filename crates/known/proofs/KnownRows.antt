@@ -2,7 +2,8 @@
 -- Assumes nothing.
 use mathlib.Core.Path.{refl}
 use Rattle.isa.specs.Words.{instructionAt, decodedAt}
-use Rattle.rules.specs.Reading.{itemOf, itemAt}
+use Rattle.items.specs.Items.{itemOf}
+use Rattle.rules.specs.Reading.{itemAt}
 use Rattle.rules.specs.Scan.{scan, firstBad}
 use Rattle.rules.specs.Known.{transferOf}
 use Rattle.rules.specs.Check.{isStart, isTarget, learn, ok1, ok2, ok3, ok4, ok5, ok6, brokenIn, rulesOf}

@@ -5,9 +5,9 @@ use Prim.Native.Nat.{ℕ, _/_, _%_}
 use mathlib.Core.Path.{_≡_}
 use mathlib.Core.List.{List, [], _∷_, map}
 use Rattle.processor.specs.Processor.{Processor, gpu}
-use Rattle.rules.specs.declared.Verdict.{Verdict}
-use Rattle.rules.specs.declared.Verdict.the-variants.{Admitted, Broken}
-use Rattle.rules.specs.declared.Rule.the-variants.{Ending, Access}
+use Rattle.verdicts.specs.declared.Verdict.{Verdict}
+use Rattle.verdicts.specs.declared.Verdict.the-variants.{Admitted, Broken}
+use Rattle.verdicts.specs.declared.Rule.the-variants.{Ending, Access}
 use Rattle.rules.specs.Check.{rulesOf}
 
 -- The words of a program, and what the six rules give for it.

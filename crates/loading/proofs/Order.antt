@@ -6,14 +6,14 @@ use mathlib.Core.Bool.{true, false, not}
 use mathlib.Core.List.{List}
 use native.Mathlib.Omega.{arith}
 use Rattle.processor.specs.Processor.{Processor}
-use Rattle.rules.specs.declared.Verdict.the-variants.{Admitted, Broken}
-use Rattle.rules.specs.declared.Rule.the-variants.{Access}
-use Rattle.rules.specs.declared.Hit.{Hit}
-use Rattle.rules.specs.declared.Hit.the-variants as H
-use Rattle.rules.specs.Verdicts.{ruleOf}
+use Rattle.verdicts.specs.declared.Verdict.the-variants.{Admitted, Broken}
+use Rattle.verdicts.specs.declared.Rule.the-variants.{Access}
+use Rattle.verdicts.specs.declared.Hit.{Hit}
+use Rattle.verdicts.specs.declared.Hit.the-variants as H
+use Rattle.verdicts.specs.Verdicts.{ruleOf}
 use Rattle.rules.specs.Scan.{found}
 use Rattle.rules.specs.Check.{firstFailing, firstAccess, orElse, brokenIn, rulesOf}
-use Rattle.rules.proofs.Booleans.{no-way}
+use Rattle.values.proofs.Booleans.{no-way}
 use Rattle.passes.specs.Passes.{testOf}
 use Rattle.passes.proofs.Lowest.{LowestFailing}
 

@@ -3,7 +3,7 @@ ghost use mathlib.Core.Path.{_≡_};
 ghost use Prim.Native.Nat.{_≤_};
 ghost use lib.ListN.{length};
 ghost use Rattle.processor.specs.Processor.{gpu};
-ghost use Rattle.rules.specs.Verdicts.{ruleOf};
+ghost use Rattle.verdicts.specs.Verdicts.{ruleOf};
 ghost use Rattle.rules.specs.Check.{orElse, isLength, rulesOf, checkOf};
 ghost use Rattle.known.specs.KnownRows.{KnownRows};
 ghost use Rattle.rules.specs.Safety.{Demand3, Tells, GoesOn};
@@ -13,9 +13,9 @@ use passes::lowest_broken;
 use processor::Gpu;
 use reading::MARKS;
 use reading::mark_code;
-use rules::Hit;
-use rules::Rule;
-use rules::Verdict;
+use verdicts::Hit;
+use verdicts::Rule;
+use verdicts::Verdict;
 
 fn rule_of(n: u32) -> Rule
     ensures { λ r. ⌜ r ≡ ruleOf n ⌝ }

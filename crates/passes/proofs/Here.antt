@@ -9,11 +9,12 @@ use borrow.Author.Tests.{eq-eqb, ne-eqb, lt-ltb, le-ltb, le-leb, lt-leb, eqb-tru
 use lib.Dec.{eqb, ltb, leb}
 use lib.ListN.{length}
 use Rattle.processor.specs.Processor.{Processor}
-use Rattle.rules.specs.declared.Item.{Item}
-use Rattle.rules.specs.declared.Shape.{Shape}
-use Rattle.rules.specs.Reading.{jumps, breaksSlot, always, itemOf, shapeOf, bytesOf}
+use Rattle.items.specs.declared.Item.{Item}
+use Rattle.items.specs.declared.Shape.{Shape}
+use Rattle.items.specs.Items.{itemOf, shapeOf, bytesOf}
+use Rattle.rules.specs.Reading.{jumps, breaksSlot, always}
 use Rattle.rules.specs.Check.{isBuilt, isTarget, ok1, ok2, ok3, ok4, ok5, jrOk, jumpOk}
-use Rattle.rules.proofs.Booleans.{by}
+use Rattle.values.proofs.Booleans.{by}
 use Rattle.reading.specs.Places.{Here}
 use Rattle.reading.proofs.Offsets.{item-at, item-here}
 

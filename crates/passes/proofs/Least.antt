@@ -9,12 +9,13 @@ use borrow.Author.Tests.{ltb-true, ltb-false}
 use lib.Dec.{ltb}
 use lib.ListN.{length}
 use Rattle.processor.specs.Processor.{Processor}
-use Rattle.rules.specs.declared.Item.{Item}
-use Rattle.rules.specs.declared.Item.the-variants.{Unbuilt}
-use Rattle.rules.specs.Reading.{itemOf, shapeOf, bytesOf, before}
+use Rattle.items.specs.declared.Item.{Item}
+use Rattle.items.specs.declared.Item.the-variants.{Unbuilt}
+use Rattle.items.specs.Items.{itemOf, shapeOf, bytesOf}
+use Rattle.rules.specs.Reading.{before}
 use Rattle.rules.specs.Scan.{found}
 use Rattle.rules.specs.Check.{firstFailing}
-use Rattle.rules.proofs.Booleans.{by}
+use Rattle.values.proofs.Booleans.{by}
 use Rattle.reading.proofs.Offsets.{item-at}
 use Rattle.passes.specs.Passes.{testOf}
 use Rattle.passes.proofs.Lowest.{LowestFailing}

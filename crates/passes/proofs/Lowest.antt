@@ -6,7 +6,7 @@ use mathlib.Core.Bool.{Bool, true, false, cond}
 use native.Mathlib.Omega.{arith}
 use borrow.Author.Tests.{ltb-true, ltb-false}
 use lib.Dec.{ltb}
-use Rattle.rules.proofs.Booleans.{by, no-way}
+use Rattle.values.proofs.Booleans.{by, no-way}
 use Rattle.passes.specs.Passes.{lowestFrom, lowestOf}
 
 -- r is the lowest of the numbers from a given one on, below a limit, of which the test fails, or the limit

@@ -4,7 +4,7 @@ use mathlib.Core.Bool.{Bool, cond}
 use mathlib.Core.List.{List}
 use lib.Dec.{eqb}
 use Rattle.processor.specs.Processor.{Processor}
-use Rattle.rules.specs.declared.Item.{Item}
+use Rattle.items.specs.declared.Item.{Item}
 use Rattle.rules.specs.Check.{ok1, ok2, ok3, ok4, ok5}
 
 -- the test of one of the rules 1 to 5, by its number

@@ -10,13 +10,13 @@ ghost use Rattle.reading.specs.Marks.{MarksStarts, MarksTargets};
 ghost use Rattle.reading.specs.Places.{Here};
 ghost use Rattle.passes.specs.Passes.{lowestOf, testOf};
 use crate::tests::obeys;
+use items::Item;
+use items::item_at;
+use items::shape_of;
+use items::size;
 use processor::Gpu;
 use reading::MARKS;
-use reading::item_at;
-use reading::shape_of;
-use reading::size;
-use rules::Hit;
-use rules::Item;
+use verdicts::Hit;
 
 // The lowest rule below a limit that the item t at offset i, after p, breaks; the limit, if it breaks none.
 fn lowest_here(

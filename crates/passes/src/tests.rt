@@ -10,15 +10,15 @@ ghost use Rattle.reading.specs.Places.{Here};
 ghost use Rattle.passes.specs.Passes.{testOf};
 use branch::jr_target;
 use field::signed_field;
+use items::Item;
+use items::Shape;
+use items::item_at;
+use items::shape_of;
+use items::size;
 use processor::Gpu;
 use reading::MARKS;
 use reading::is_marked;
 use reading::is_target;
-use reading::item_at;
-use reading::shape_of;
-use reading::size;
-use rules::Item;
-use rules::Shape;
 
 fn is_built(t: Item) -> bool
     ensures { λ r. ⌜ r ≡ check.isBuilt t ⌝ }

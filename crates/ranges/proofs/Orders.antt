@@ -9,9 +9,9 @@ use lib.Dec.{eqb, ltb}
 use lib.ListN.{length, getD, set, replicate, length-set}
 use lib.Seq.{getD-set-same, getD-set-other, set-out}
 use borrow.Author.Tests.{eqb-true, eqb-false, ltb-true, ltb-false}
-use Rattle.rules.specs.declared.Range.{Range}
-use Rattle.rules.specs.Known.{full, unknown, rangeAt}
-use Rattle.rules.proofs.Booleans.{by}
+use Rattle.ranges.specs.declared.Range.{Range}
+use Rattle.ranges.specs.Ranges.{full, unknown, rangeAt}
+use Rattle.values.proofs.Booleans.{by}
 use Rattle.ranges.specs.Ordered.{Ordered, AllOrdered}
 
 getD-any : {A : Type 0} (l : List A) (i : ℕ) (d e : A) → i < length l → getD l i d ≡ getD l i e

@@ -3,8 +3,8 @@ use Prim.Native.Nat.{ℕ, _≤_}
 use mathlib.Core.Path.{_≡_}
 use mathlib.Core.List.{List}
 use lib.ListN.{length}
-use Rattle.rules.specs.declared.Range.{Range}
-use Rattle.rules.specs.Known.{rangeAt}
+use Rattle.ranges.specs.declared.Range.{Range}
+use Rattle.ranges.specs.Ranges.{rangeAt}
 
 abbrev pub Ordered : Range → Type 0
 Ordered x = x .low ≤ x .high

@@ -9,11 +9,11 @@ use lib.Dec.{ltb}
 use lib.ListN.{length}
 use borrow.Author.Tests.{ltb-true, ltb-false}
 use Rattle.processor.specs.Processor.{Processor}
-use Rattle.rules.specs.declared.Hit.{Hit}
-use Rattle.rules.specs.declared.Hit.the-variants as H
+use Rattle.verdicts.specs.declared.Hit.{Hit}
+use Rattle.verdicts.specs.declared.Hit.the-variants as H
 use Rattle.rules.specs.Reading.{endOf, after}
 use Rattle.rules.specs.Scan.{scan, firstBad}
-use Rattle.rules.proofs.Booleans.{by}
+use Rattle.values.proofs.Booleans.{by}
 use Rattle.rules.proofs.Scan.{scan-past, scan-on, scan-hit, after-later}
 
 module _ (P : Processor) (code : List ℕ) (X : Type 0) (x₀ : X) (flow : ℕ → X → X) (test : ℕ → X → Bool) where

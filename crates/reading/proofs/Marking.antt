@@ -12,10 +12,10 @@ use lib.ListN.{length, getD, replicate, length-set}
 use lib.Seq.{getD-set-same, getD-set-other}
 use borrow.Author.Tests.{lt-ltb, le-ltb, ltb-false, eqb-true, eqb-false}
 use Rattle.processor.specs.Processor.{Processor}
-use Rattle.rules.specs.declared.Item.{Item}
-use Rattle.rules.specs.Reading.{itemOf, shapeOf, bytesOf}
+use Rattle.items.specs.declared.Item.{Item}
+use Rattle.items.specs.Items.{itemOf, shapeOf, bytesOf}
 use Rattle.rules.specs.Scan.{found, firstBad}
-use Rattle.rules.proofs.Booleans.{by}
+use Rattle.values.proofs.Booleans.{by}
 use Rattle.reading.specs.Marks.{markCount, markAt, mark, Near}
 use Rattle.reading.proofs.From.{fromThere, from-first, from-past, from-on, from-hit}
 use Rattle.reading.proofs.Offsets.{after-at}

@@ -5,8 +5,9 @@ use mathlib.Core.Path.{_≡_, sym, _∙_, ap}
 use mathlib.Core.List.{List}
 use native.Mathlib.Omega.{arith}
 use Rattle.processor.specs.Processor.{Processor}
-use Rattle.rules.specs.declared.Item.{Item}
-use Rattle.rules.specs.Reading.{itemOf, shapeOf, bytesOf, itemAt, after}
+use Rattle.items.specs.declared.Item.{Item}
+use Rattle.items.specs.Items.{itemOf, shapeOf, bytesOf}
+use Rattle.rules.specs.Reading.{itemAt, after}
 use Rattle.reading.specs.Places.{Here}
 
 module _ (P : Processor) where

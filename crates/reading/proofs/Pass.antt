@@ -8,9 +8,9 @@ use native.Mathlib.Nat.{add-zero}
 use native.Mathlib.Omega.{arith}
 use lib.ListN.{length}
 use Rattle.processor.specs.Processor.{Processor}
-use Rattle.rules.specs.declared.Item.{Item}
-use Rattle.rules.specs.declared.Hit.the-variants as H
-use Rattle.rules.specs.Reading.{itemOf, shapeOf, bytesOf}
+use Rattle.items.specs.declared.Item.{Item}
+use Rattle.verdicts.specs.declared.Hit.the-variants as H
+use Rattle.items.specs.Items.{itemOf, shapeOf, bytesOf}
 use Rattle.rules.specs.Scan.{firstBad}
 use Rattle.reading.proofs.From.{fromThere, from-first, from-past, from-on, from-hit}
 use Rattle.reading.proofs.Offsets.{after-at}

@@ -6,7 +6,7 @@ use mathlib.Core.List.{List}
 use lib.Dec.{eqb, ltb}
 use lib.ListN.{getD, set, replicate}
 use Rattle.processor.specs.Processor.{Processor}
-use Rattle.rules.specs.declared.Shape.{Shape}
+use Rattle.items.specs.declared.Shape.{Shape}
 use Rattle.rules.specs.Check.{holds, leads, isStart, isTarget}
 
 module _ (P : Processor) where

@@ -4,8 +4,8 @@ use mathlib.Core.Path.{_≡_}
 use mathlib.Core.List.{List}
 use lib.ListN.{length}
 use Rattle.processor.specs.Processor.{Processor}
-use Rattle.rules.specs.declared.Item.{Item}
-use Rattle.rules.specs.Reading.{itemOf}
+use Rattle.items.specs.declared.Item.{Item}
+use Rattle.items.specs.Items.{itemOf}
 
 -- t stands at the offset i of code that fits RAM
 pub record Here (P : Processor) (code : List ℕ) (i : ℕ) (t : Item) : Type 0 where

@@ -1,10 +1,6 @@
 // The code as the loading check reads it: what stands at an offset, and which offsets are instruction starts and targets.
-mod items;
 mod marks;
 
-pub use items::item_at;
-pub use items::shape_of;
-pub use items::size;
 pub use marks::MARKS;
 pub use marks::is_marked;
 pub use marks::is_target;

@@ -6,14 +6,14 @@ ghost use lib.ListN.{length};
 ghost use Rattle.processor.specs.Processor.{gpu};
 ghost use Rattle.rules.specs.Check.{isTarget};
 ghost use Rattle.reading.specs.Marks.{markCount, markAt, mark, unmarked, MovedInto, Targets, MarksStarts, MarksTargets};
-use crate::items::item_at;
-use crate::items::shape_of;
-use crate::items::size;
 use branch::jr_target;
 use field::signed_field;
+use items::Item;
+use items::Shape;
+use items::item_at;
+use items::shape_of;
+use items::size;
 use processor::Gpu;
-use rules::Item;
-use rules::Shape;
 
 // How many addresses have a mark: those of RAM, and a few behind it, where the last instruction may end.
 pub const MARKS: usize = Gpu::SIZE + 8;

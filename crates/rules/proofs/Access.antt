@@ -12,11 +12,11 @@ use Rattle.memory.specs.Memory.{isMapped, isRegister, placeOf}
 use Rattle.memory.specs.declared.Place.{Place}
 use Rattle.memory.specs.declared.Place.the-variants as M
 use Rattle.memory.proofs.Places.{Register, is-flags, is-control, is-divide, is-none, register-at}
-use Rattle.rules.specs.declared.Range.{Range}
-use Rattle.rules.specs.Known.{isExactly}
+use Rattle.ranges.specs.declared.Range.{Range}
+use Rattle.ranges.specs.Ranges.{isExactly}
 use Rattle.rules.specs.Rules.{Accessible, in-ram, one-register, Reaches}
-use Rattle.rules.proofs.Booleans.{no-way, and-i}
-use Rattle.rules.proofs.Ranges.{In}
+use Rattle.values.proofs.Booleans.{no-way, and-i}
+use Rattle.ranges.proofs.Covers.{In}
 
 module _ (P : Processor) (sound : Sound P) (code : List ℕ) (from : ℕ) (low : P .base ≤ from) (x : Range) where
   -- a place that the range x of addresses allows

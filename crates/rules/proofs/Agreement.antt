@@ -24,8 +24,8 @@ use Rattle.effect.specs.declared.Effect.{Effect}
 use Rattle.effect.specs.declared.Effect.the-variants as E
 use Rattle.effect.proofs.EffectWidths.{Each, _⊗_, found}
 use Rattle.processor.specs.Processor.{Processor, Sound}
-use Rattle.rules.specs.declared.Item.the-variants.{Built}
-use Rattle.rules.specs.Reading.{itemIn}
+use Rattle.items.specs.declared.Item.the-variants.{Built}
+use Rattle.items.specs.Items.{itemIn}
 
 -- no register of the active bank is written, and neither RAM nor the counter is touched
 abbrev pub Silent : Effect → Type 0

@@ -22,15 +22,15 @@ use Rattle.machine.specs.State.{machineOf, stateOf, IsState}
 use Rattle.machine.specs.Run.{budgetLimit, Result, activityOf, startedOf, runOf}
 use Rattle.machine.proofs.Laws.{ran, by-way}
 use Rattle.machine.proofs.Machines.{state-machine, machine-state, machine-typed}
-use Rattle.rules.specs.declared.Verdict.the-variants.{Admitted}
+use Rattle.verdicts.specs.declared.Verdict.the-variants.{Admitted}
 use Rattle.rules.specs.Check.{checkOf}
-use Rattle.rules.specs.declared.Item.the-variants.{Unbuilt}
+use Rattle.items.specs.declared.Item.the-variants.{Unbuilt}
 use Rattle.rules.specs.Reading.{first}
-use Rattle.rules.specs.Known.{unknown}
+use Rattle.ranges.specs.Ranges.{unknown}
 use Rattle.rules.specs.Rules.{IsInstruction, Knows, at-first, Rules}
 use Rattle.rules.specs.Safety.{Begins, Loaded, Left, afterSteps, afterRuns, Kept, Safe, Demand3, Tells, GoesOn}
-use Rattle.rules.proofs.Booleans.{no-way}
-use Rattle.rules.proofs.Ranges.{wide}
+use Rattle.values.proofs.Booleans.{no-way}
+use Rattle.ranges.proofs.Covers.{wide}
 use Rattle.rules.proofs.Invariant.{by-fall, Inv}
 use Rattle.rules.proofs.Step.{step}
 use Rattle.rules.proofs.Exact.{admits-exactly, told}

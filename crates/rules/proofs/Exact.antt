@@ -10,23 +10,23 @@ use lib.Dec.{eqb, ltb, leb}
 use lib.ListN.{length, take}
 use borrow.Author.Tests.{eqb-true, eqb-false, eq-eqb, leb-true, le-leb, ltb-true, ltb-false}
 use Rattle.processor.specs.Processor.{Processor}
-use Rattle.rules.specs.declared.Range.{Range}
-use Rattle.rules.specs.declared.Verdict.{Verdict}
-use Rattle.rules.specs.declared.Verdict.the-variants.{Admitted, RamLength, CodeLength, Broken}
-use Rattle.rules.specs.declared.Rule.{Rule}
-use Rattle.rules.specs.declared.Rule.the-variants.{AllBuilt, JrTarget, JumpTarget, DelaySlot, Ending, Access}
-use Rattle.rules.specs.declared.Hit.{Hit}
-use Rattle.rules.specs.declared.Hit.the-variants as H
-use Rattle.rules.specs.declared.Item.{Item}
-use Rattle.rules.specs.declared.Item.the-variants.{Unbuilt}
-use Rattle.rules.specs.Verdicts.{ruleNumber, ruleOf}
+use Rattle.ranges.specs.declared.Range.{Range}
+use Rattle.verdicts.specs.declared.Verdict.{Verdict}
+use Rattle.verdicts.specs.declared.Verdict.the-variants.{Admitted, RamLength, CodeLength, Broken}
+use Rattle.verdicts.specs.declared.Rule.{Rule}
+use Rattle.verdicts.specs.declared.Rule.the-variants.{AllBuilt, JrTarget, JumpTarget, DelaySlot, Ending, Access}
+use Rattle.verdicts.specs.declared.Hit.{Hit}
+use Rattle.verdicts.specs.declared.Hit.the-variants as H
+use Rattle.items.specs.declared.Item.{Item}
+use Rattle.items.specs.declared.Item.the-variants.{Unbuilt}
+use Rattle.verdicts.specs.Verdicts.{ruleNumber, ruleOf}
 use Rattle.rules.specs.Reading.{before, Reads}
 use Rattle.rules.specs.Scan.{firstBad}
-use Rattle.rules.specs.Known.{unknown}
+use Rattle.ranges.specs.Ranges.{unknown}
 use Rattle.rules.specs.Check.{learn, ok1, ok2, ok3, ok4, ok5, ok6, firstOf, orElse, brokenIn, ruleOrder, rulesOf, isLength, checkOf}
 use Rattle.rules.specs.Rules.{Knows, Rule1, Rule2, Rule3, Rule4, Rule5, Rule6, Held, Obeys, Everywhere, Rules, Lowest}
 use Rattle.rules.specs.Safety.{IsProgram, Means}
-use Rattle.rules.proofs.Booleans.{by, no-way, and-l, and-r, and-i}
+use Rattle.values.proofs.Booleans.{by, no-way, and-l, and-r, and-i}
 use Rattle.rules.proofs.Scan.{reads-too, passes, passes-before, fails-there}
 use Rattle.rules.proofs.Reflect.{of1, is1, of2, is2, of3, is3, of4, is4, of5, is5, of6, is6, knows-is, knows-of}
 

@@ -17,14 +17,15 @@ use Rattle.core.specs.Types.{IsBank, IsMemory}
 use Rattle.machine.specs.declared.State.{State}
 use Rattle.machine.specs.State.{startState, IsState}
 use Rattle.machine.specs.Run.{budgetLimit}
-use Rattle.rules.specs.declared.Verdict.the-variants.{Admitted, Broken}
-use Rattle.rules.specs.declared.Rule.the-variants.{Ending}
-use Rattle.rules.specs.Reading.{itemOf, itemAt}
+use Rattle.verdicts.specs.declared.Verdict.the-variants.{Admitted, Broken}
+use Rattle.verdicts.specs.declared.Rule.the-variants.{Ending}
+use Rattle.items.specs.Items.{itemOf}
+use Rattle.rules.specs.Reading.{itemAt}
 use Rattle.rules.specs.Scan.{scan, firstBad}
 use Rattle.rules.specs.Known.{transferOf}
 use Rattle.rules.specs.Check.{isStart, isTarget, learn, ok1, ok2, ok3, ok4, ok5, ok6, brokenIn, rulesOf, checkOf}
 use Rattle.rules.specs.Safety.{Begins, Loaded, Safe, Demand3, Tells, GoesOn}
-use Rattle.rules.proofs.Booleans.{and-l, and-r}
+use Rattle.values.proofs.Booleans.{and-l, and-r}
 use Rattle.rules.proofs.Demand.{demand3, tells, goes-on}
 
 pub gpu-demand3 : Demand3 gpu

@@ -11,9 +11,10 @@ use Rattle.processor.specs.Processor.{Processor, Sound}
 use Rattle.memory.specs.Memory.{wordAt, putLong, fetchOf, immediateOf}
 use Rattle.memory.specs.declared.Fetched.the-variants as F
 use Rattle.memory.specs.declared.Received.the-variants as I
-use Rattle.rules.specs.declared.Shape.{Shape}
-use Rattle.rules.specs.declared.Shape.the-variants.{Other, Movei, MovePc, Jr, Jump, Load, Store}
-use Rattle.rules.specs.Reading.{bytesOf, shapeAt, Reads, first, next}
+use Rattle.items.specs.declared.Shape.{Shape}
+use Rattle.items.specs.declared.Shape.the-variants.{Other, Movei, MovePc, Jr, Jump, Load, Store}
+use Rattle.items.specs.Items.{bytesOf}
+use Rattle.rules.specs.Reading.{shapeAt, Reads, first, next}
 
 bytes-even : (s : Shape) → bytesOf s % 2 ≡ 0
 bytes-even Other = refl

@@ -15,20 +15,22 @@ use Rattle.core.specs.declared.Pending.{Pending}
 use Rattle.core.specs.declared.Pending.the-variants.{None, At}
 use Rattle.core.specs.Core.{counterOf, movedOf}
 use Rattle.core.specs.Machine.{Memory, Machine, machineWith}
-use Rattle.rules.specs.declared.Range.{Range}
-use Rattle.rules.specs.declared.Item.{Item}
-use Rattle.rules.specs.declared.Item.the-variants.{Built}
-use Rattle.rules.specs.declared.Shape.{Shape}
-use Rattle.rules.specs.declared.Shape.the-variants.{Other, Movei, MovePc, Jr, Jump, Load, Store}
-use Rattle.rules.specs.declared.Rule.the-variants as N
-use Rattle.rules.specs.Reading.{breaksSlot, always, shapeIn, shapeOf, bytesOf, endOf, itemAt, shapeAt, after, next}
-use Rattle.rules.specs.Known.{unknown, transfer, transferOf}
+use Rattle.ranges.specs.declared.Range.{Range}
+use Rattle.items.specs.declared.Item.{Item}
+use Rattle.items.specs.declared.Item.the-variants.{Built}
+use Rattle.items.specs.declared.Shape.{Shape}
+use Rattle.items.specs.declared.Shape.the-variants.{Other, Movei, MovePc, Jr, Jump, Load, Store}
+use Rattle.verdicts.specs.declared.Rule.the-variants as N
+use Rattle.items.specs.Items.{shapeIn, shapeOf, bytesOf}
+use Rattle.rules.specs.Reading.{breaksSlot, always, endOf, itemAt, shapeAt, after, next}
+use Rattle.ranges.specs.Ranges.{unknown}
+use Rattle.rules.specs.Known.{transfer, transferOf}
 use Rattle.rules.specs.Check.{isTarget, learn}
 use Rattle.rules.specs.Rules.{IsInstruction, IsStart, Leads, by-jr, by-jump, IsTarget, Knows, at-first, at-target, onward, Rules}
-use Rattle.rules.proofs.Booleans.{by, no-way}
+use Rattle.values.proofs.Booleans.{by, no-way}
 use Rattle.rules.proofs.Scan.{reads-too}
 use Rattle.rules.proofs.Reflect.{knows-of, knows-next}
-use Rattle.rules.proofs.Ranges.{Fits}
+use Rattle.ranges.proofs.Covers.{Fits}
 
 -- what an instruction that was just run left in the active bank: a MOVEI's register holds its value
 abbrev pub HoldsValue : Shape → List ℕ → Type 0

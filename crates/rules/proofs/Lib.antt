@@ -1,8 +1,6 @@
-pub mod Booleans
 pub mod Scan
 pub mod Reflect
 pub mod Exact
-pub mod Ranges
 pub mod Agreement
 pub mod Invariant
 pub mod Fetching

@@ -9,13 +9,14 @@ use lib.Dec.{ltb}
 use lib.ListN.{length}
 use borrow.Author.Tests.{ltb-true, ltb-false, lt-ltb, le-ltb}
 use Rattle.processor.specs.Processor.{Processor}
-use Rattle.rules.specs.declared.Shape.{Shape}
-use Rattle.rules.specs.declared.Shape.the-variants.{Other, Movei, MovePc, Jr, Jump, Load, Store}
-use Rattle.rules.specs.declared.Hit.{Hit}
-use Rattle.rules.specs.declared.Hit.the-variants as H
-use Rattle.rules.specs.Reading.{bytesOf, endOf, shapeAt, after, Reads, first, next}
+use Rattle.items.specs.declared.Shape.{Shape}
+use Rattle.items.specs.declared.Shape.the-variants.{Other, Movei, MovePc, Jr, Jump, Load, Store}
+use Rattle.verdicts.specs.declared.Hit.{Hit}
+use Rattle.verdicts.specs.declared.Hit.the-variants as H
+use Rattle.items.specs.Items.{bytesOf}
+use Rattle.rules.specs.Reading.{endOf, shapeAt, after, Reads, first, next}
 use Rattle.rules.specs.Scan.{found, scan, firstBad}
-use Rattle.rules.proofs.Booleans.{by, no-way}
+use Rattle.values.proofs.Booleans.{by, no-way}
 
 pub bytes-least : (s : Shape) → 2 ≤ bytesOf s
 bytes-least Other = omega arith

@@ -36,17 +36,19 @@ use Rattle.transfers.specs.Outcome.{movedWith, doneOf, Outcome, unwritten}
 use Rattle.transfers.specs.Transfers.{jumpOf, counterIn, loadOf, receives, storeOf}
 use Rattle.cpu.specs.Step.{applyOf, operandsOf, executeOf, advanceOf}
 use Rattle.laws.proofs.Instruction.{IsCompleted}
-use Rattle.rules.specs.declared.Range.{Range}
-use Rattle.rules.specs.declared.Item.{Item}
-use Rattle.rules.specs.declared.Item.the-variants.{Unbuilt, Built}
-use Rattle.rules.specs.declared.Shape.the-variants.{Other, Movei, MovePc, Jr, Jump, Load, Store}
-use Rattle.rules.specs.declared.Rule.the-variants as N
-use Rattle.rules.specs.Reading.{jumps, breaksSlot, always, itemIn, itemOf, shapeIn, shapeOf, bytesOf, endOf, itemAt, shapeAt, after}
-use Rattle.rules.specs.Known.{full, unknown, exactRange, addressRange, isExactly, transfer, transferOf}
+use Rattle.ranges.specs.declared.Range.{Range}
+use Rattle.items.specs.declared.Item.{Item}
+use Rattle.items.specs.declared.Item.the-variants.{Unbuilt, Built}
+use Rattle.items.specs.declared.Shape.the-variants.{Other, Movei, MovePc, Jr, Jump, Load, Store}
+use Rattle.verdicts.specs.declared.Rule.the-variants as N
+use Rattle.items.specs.Items.{itemIn, itemOf, shapeIn, shapeOf, bytesOf}
+use Rattle.rules.specs.Reading.{jumps, breaksSlot, always, endOf, itemAt, shapeAt, after}
+use Rattle.ranges.specs.Ranges.{full, unknown, exactRange, isExactly}
+use Rattle.rules.specs.Known.{addressRange, transfer, transferOf}
 use Rattle.rules.specs.Rules.{IsTarget, by-jr, by-jump, Rules}
 use Rattle.branch.proofs.Conditions.{always-taken}
-use Rattle.rules.proofs.Booleans.{no-way}
-use Rattle.rules.proofs.Ranges.{In, Fits, fits-at, fits-set, fits-write, in-exactly, in-sum, in-and, in-less, in-shifted}
+use Rattle.values.proofs.Booleans.{no-way}
+use Rattle.ranges.proofs.Covers.{In, Fits, fits-at, fits-set, fits-write, in-exactly, in-sum, in-and, in-less, in-shifted}
 use Rattle.rules.proofs.Agreement.{Silent, Gives, Any, One, reached, Agrees, agrees}
 use Rattle.rules.proofs.Invariant.{HoldsValue, Came, by-target, by-fall, Inv, fall, not-last, arrive}
 use Rattle.rules.proofs.Scan.{bytes-least}

@@ -8,20 +8,22 @@ use Rattle.field.specs.Fields.{signedFieldOf}
 use Rattle.branch.specs.Jump.{jrTargetOf}
 use Rattle.processor.specs.Processor.{Processor}
 use Rattle.memory.specs.Memory.{isRegister}
-use Rattle.rules.specs.declared.Range.{Range}
-use Rattle.rules.specs.declared.Verdict.{Verdict}
-use Rattle.rules.specs.declared.Verdict.the-variants.{Admitted, RamLength, CodeLength, Broken}
-use Rattle.rules.specs.declared.Rule.{Rule}
-use Rattle.rules.specs.declared.Rule.the-variants.{AllBuilt, JrTarget, JumpTarget, DelaySlot, Ending, Access}
-use Rattle.rules.specs.declared.Hit.{Hit}
-use Rattle.rules.specs.declared.Hit.the-variants as H
-use Rattle.rules.specs.declared.Item.{Item}
-use Rattle.rules.specs.declared.Item.the-variants.{Unbuilt, Built}
-use Rattle.rules.specs.declared.Shape.{Shape}
-use Rattle.rules.specs.declared.Shape.the-variants.{Other, Movei, MovePc, Jr, Jump, Load, Store}
-use Rattle.rules.specs.Reading.{jumps, breaksSlot, always, shapeOf, endOf, itemAt, shapeAt, after, before}
+use Rattle.ranges.specs.declared.Range.{Range}
+use Rattle.verdicts.specs.declared.Verdict.{Verdict}
+use Rattle.verdicts.specs.declared.Verdict.the-variants.{Admitted, RamLength, CodeLength, Broken}
+use Rattle.verdicts.specs.declared.Rule.{Rule}
+use Rattle.verdicts.specs.declared.Rule.the-variants.{AllBuilt, JrTarget, JumpTarget, DelaySlot, Ending, Access}
+use Rattle.verdicts.specs.declared.Hit.{Hit}
+use Rattle.verdicts.specs.declared.Hit.the-variants as H
+use Rattle.items.specs.declared.Item.{Item}
+use Rattle.items.specs.declared.Item.the-variants.{Unbuilt, Built}
+use Rattle.items.specs.declared.Shape.{Shape}
+use Rattle.items.specs.declared.Shape.the-variants.{Other, Movei, MovePc, Jr, Jump, Load, Store}
+use Rattle.items.specs.Items.{shapeOf}
+use Rattle.rules.specs.Reading.{jumps, breaksSlot, always, endOf, itemAt, shapeAt, after, before}
 use Rattle.rules.specs.Scan.{found, firstBad}
-use Rattle.rules.specs.Known.{unknown, addressRange, transferOf}
+use Rattle.ranges.specs.Ranges.{unknown}
+use Rattle.rules.specs.Known.{addressRange, transferOf}
 
 abbrev pub isBuilt : Item → Bool
 isBuilt Unbuilt = false

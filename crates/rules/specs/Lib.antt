@@ -1,4 +1,3 @@
-pub mod Verdicts
 pub mod Reading
 pub mod Known
 pub mod Rules

@@ -8,15 +8,17 @@ use Rattle.field.specs.Fields.{signedFieldOf}
 use Rattle.branch.specs.Jump.{jrTargetOf}
 use Rattle.processor.specs.Processor.{Processor}
 use Rattle.memory.specs.Memory.{isRegister}
-use Rattle.rules.specs.declared.Range.{Range}
-use Rattle.rules.specs.declared.Item.{Item}
-use Rattle.rules.specs.declared.Item.the-variants.{Unbuilt}
-use Rattle.rules.specs.declared.Shape.the-variants.{Movei, Jr, Jump, Load, Store}
-use Rattle.rules.specs.declared.Rule.{Rule}
-use Rattle.rules.specs.declared.Rule.the-variants.{AllBuilt, JrTarget, JumpTarget, DelaySlot, Ending, Access}
-use Rattle.rules.specs.Verdicts.{ruleNumber}
-use Rattle.rules.specs.Reading.{jumps, breaksSlot, always, shapeOf, endOf, itemAt, shapeAt, after, before, Reads}
-use Rattle.rules.specs.Known.{unknown, addressRange, transferOf}
+use Rattle.ranges.specs.declared.Range.{Range}
+use Rattle.items.specs.declared.Item.{Item}
+use Rattle.items.specs.declared.Item.the-variants.{Unbuilt}
+use Rattle.items.specs.declared.Shape.the-variants.{Movei, Jr, Jump, Load, Store}
+use Rattle.verdicts.specs.declared.Rule.{Rule}
+use Rattle.verdicts.specs.declared.Rule.the-variants.{AllBuilt, JrTarget, JumpTarget, DelaySlot, Ending, Access}
+use Rattle.verdicts.specs.Verdicts.{ruleNumber}
+use Rattle.items.specs.Items.{shapeOf}
+use Rattle.rules.specs.Reading.{jumps, breaksSlot, always, endOf, itemAt, shapeAt, after, before, Reads}
+use Rattle.ranges.specs.Ranges.{unknown}
+use Rattle.rules.specs.Known.{addressRange, transferOf}
 
 module _ (P : Processor) (code : List ℕ) where
   -- an instruction stands at a, and x is what comes there with it

@@ -13,8 +13,8 @@ use Rattle.core.specs.Types.{IsMemory}
 use Rattle.machine.specs.declared.State.{State}
 use Rattle.machine.specs.State.{IsState}
 use Rattle.machine.specs.Run.{budgetLimit, runOf, stepOf}
-use Rattle.rules.specs.declared.Verdict.{Verdict}
-use Rattle.rules.specs.declared.Verdict.the-variants.{Admitted, RamLength, CodeLength, Broken}
+use Rattle.verdicts.specs.declared.Verdict.{Verdict}
+use Rattle.verdicts.specs.declared.Verdict.the-variants.{Admitted, RamLength, CodeLength, Broken}
 use Rattle.rules.specs.Check.{checkOf}
 use Rattle.rules.specs.Rules.{IsStart, Rules, FirstBroken}
 

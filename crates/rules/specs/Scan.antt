@@ -5,8 +5,8 @@ use mathlib.Core.List.{List}
 use lib.Dec.{ltb}
 use lib.ListN.{length}
 use Rattle.processor.specs.Processor.{Processor}
-use Rattle.rules.specs.declared.Hit.{Hit}
-use Rattle.rules.specs.declared.Hit.the-variants as H
+use Rattle.verdicts.specs.declared.Hit.{Hit}
+use Rattle.verdicts.specs.declared.Hit.the-variants as H
 use Rattle.rules.specs.Reading.{endOf, after}
 
 -- whether a scan of the code finds an instruction

@@ -11,15 +11,15 @@ use Prim.Native.Nat.{ℕ, _+_, _-_, _<_}
 use denote.Ref.{now}
 use lib.ListN.{length, set}
 use Rattle.processor.specs.Processor.{gpu}
-use Rattle.rules.specs.declared.Range.{Range}
-use Rattle.rules.specs.Reading.{shapeOf, bytesOf}
-use Rattle.rules.specs.Known.{unknown, rangeAt}
+use Rattle.ranges.specs.declared.Range.{Range}
+use Rattle.items.specs.Items.{shapeOf, bytesOf}
+use Rattle.ranges.specs.Ranges.{unknown, rangeAt}
 use Rattle.rules.specs.Check.{learn, ok6}
-use Rattle.ranges.specs.InPlace.{forgetsOf, rangeAfter}
+use Rattle.transfer.specs.InPlace.{forgetsOf, rangeAfter}
 use Rattle.ranges.specs.Ordered.{Ordered, AllOrdered}
 use Rattle.ranges.proofs.Orders.{set-ordered, set-nothing}
 use Rattle.reading.specs.Places.{Here}
-use Rattle.accesses.specs.Items.{longIn}
+use Rattle.items.specs.Items.{longIn}
 use Rattle.reading.proofs.Pass.{PassAt, pass-first, pass-on, pass-hit, pass-past}
 use Rattle.accesses.proofs.Turn.{range-read, ok6-here, learnt-here}
 use Rattle.accesses.proofs.first_access.Statement.{statement}

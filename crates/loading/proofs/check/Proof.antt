@@ -11,7 +11,7 @@ use lib.Dec.{leb, eqb}
 use lib.Seq.{length-take-le}
 use Rattle.processor.specs.Processor.{gpu}
 use Rattle.rules.specs.Check.{isLength, checkOf}
-use Rattle.rules.proofs.Booleans.{and-l, and-r}
+use Rattle.values.proofs.Booleans.{and-l, and-r}
 use Rattle.known.proofs.KnownRows.{known-rows}
 use Rattle.known.specs.KnownRows.{KnownRows}
 use Rattle.rules.specs.Safety.{Demand3, Tells, GoesOn}

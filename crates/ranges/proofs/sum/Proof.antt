@@ -4,7 +4,7 @@ use Prim.Native.Nat.{_+_}
 use borrow.Author.Needs.{needs}
 use borrow.Author.Tests.{lt-ltb, le-ltb}
 use native.Mathlib.Omega.{arith}
-use Rattle.rules.specs.Known.{most}
+use Rattle.ranges.specs.Ranges.{most}
 use Rattle.ranges.proofs.sum.Statement.{statement}
 use Rattle.ranges.proofs.sum.Tie as tie
 

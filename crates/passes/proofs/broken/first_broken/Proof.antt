@@ -7,9 +7,10 @@ use mathlib.Core.Path.{sym, subst, _∙_, ap}
 use Prim.Native.Nat.{_-_}
 use lib.ListN.{length}
 use Rattle.processor.specs.Processor.{gpu}
-use Rattle.rules.specs.declared.Item.{Item}
-use Rattle.rules.specs.declared.Item.the-variants.{Unbuilt}
-use Rattle.rules.specs.Reading.{bytesOf, before}
+use Rattle.items.specs.declared.Item.{Item}
+use Rattle.items.specs.declared.Item.the-variants.{Unbuilt}
+use Rattle.items.specs.Items.{bytesOf}
+use Rattle.rules.specs.Reading.{before}
 use Rattle.passes.specs.Passes.{testOf}
 use Rattle.reading.proofs.Pass.{PassAt, pass-first, pass-on, pass-hit, pass-past}
 use Rattle.reading.proofs.Offsets.{item-at}

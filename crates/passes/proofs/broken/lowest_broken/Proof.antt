@@ -6,7 +6,7 @@ use mathlib.Core.Path.{sym, subst, _∙_, ap}
 use native.Mathlib.Omega.{arith}
 use lib.ListN.{length}
 use Rattle.processor.specs.Processor.{gpu}
-use Rattle.rules.specs.Reading.{bytesOf}
+use Rattle.items.specs.Items.{bytesOf}
 use Rattle.passes.proofs.Lowest.{LowestFailing, lowest-of, lowest-is}
 use Rattle.passes.proofs.Least.{Least, least-first, least-on, least-past}
 use Rattle.passes.proofs.broken.lowest_broken.Statement.{statement}

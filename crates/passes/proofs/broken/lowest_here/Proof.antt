@@ -8,7 +8,7 @@ use borrow.Author.Tests.{not-true, not-false, ltb-true, ltb-false}
 use denote.Ref.{now}
 use lib.Dec.{ltb}
 use Rattle.processor.specs.Processor.{gpu}
-use Rattle.rules.proofs.Booleans.{by}
+use Rattle.values.proofs.Booleans.{by}
 use Rattle.passes.specs.Passes.{testOf}
 use Rattle.passes.proofs.Lowest.{lowest-is}
 use Rattle.passes.proofs.broken.lowest_here.Statement.{statement}

@@ -8,9 +8,10 @@ use mathlib.Core.Logic.{inl, inr}
 use lib.Dec.{eqb}
 use lib.ListN.{length}
 use Rattle.processor.specs.Processor.{gpu}
-use Rattle.rules.specs.declared.Item.{Item}
-use Rattle.rules.specs.declared.Item.the-variants.{Unbuilt}
-use Rattle.rules.specs.Reading.{shapeOf, shapeAt, bytesOf, before}
+use Rattle.items.specs.declared.Item.{Item}
+use Rattle.items.specs.declared.Item.the-variants.{Unbuilt}
+use Rattle.items.specs.Items.{shapeOf, bytesOf}
+use Rattle.rules.specs.Reading.{shapeAt, before}
 use Rattle.rules.specs.Check.{leads, isStart, isTarget}
 use Rattle.reading.specs.Marks.{markCount, Near, markAt}
 use Rattle.reading.proofs.Offsets.{item-at}

@@ -1,0 +1,55 @@
+-- `range_after` meets its contract: each arm of the match is a line of the definition.
+-- Assumes nothing.
+use borrow.Author.Needs.{needs}
+use Rattle.transfer.proofs.range_after.Statement.{statement}
+use Rattle.transfer.proofs.range_after.Tie as tie
+
+pub range-after-spec : {M : Type 1} → statement M
+range-after-spec =
+    tie.close
+    (tie.spec
+    (λ c. search needs)
+    (λ c κs. search needs)
+    (λ c. search needs)
+    (λ c κs. search needs)
+    (λ c. search needs)
+    (λ c κs. search needs)
+    (λ c. search needs)
+    (λ c κs. search needs)
+    (λ c. search needs)
+    (λ c. search needs)
+    (λ c κs. search needs)
+    (λ c. search needs)
+    (λ c κs. search needs)
+    (λ c. search needs)
+    (λ c κs. search needs)
+    (λ c κs. search needs)
+    (λ c. search needs)
+    (λ c κs. search needs)
+    (λ c. search needs)
+    (λ c κs. search needs)
+    (λ c. search needs)
+    (λ c κs. search needs)
+    (λ c. search needs)
+    (λ c κs. search needs)
+    (λ c. search needs)
+    (λ c κs. search needs)
+    (λ c. search needs)
+    (λ c κs. search needs)
+    (λ c. search needs)
+    (λ c κs. search needs)
+    (λ c. (rw (c .before .enum-told .given .1) (c .anything .ensures .0), c .anything .ensures .1))
+    (λ c. (rw (c .before .enum-told2 .given .1) (c .anything2 .ensures .0), c .anything2 .ensures .1))
+    (λ c. (rw (c .before .before .c .given .1) (c .exact .ensures .0), c .exact .ensures .1))
+    (λ c. (rw (c .before .enum-told3 .given .1) (c .exact2 .ensures .0), c .exact2 .ensures .1))
+    (λ c. (rw (c .enum-told4 .given .1), c .before .before .pre .0))
+    (λ c. (rw (c .before .enum-told5 .given .1) (c .and .ensures .0), c .and .ensures .1))
+    (λ c. (rw (c .before .enum-told6 .given .1) (c .sum .ensures .0), c .sum .ensures .1))
+    (λ c. (rw (c .sum2 .ensures .0, c .before .exact3 .ensures .0, c .before .before .before .c2 .given .1), c .sum2 .ensures .1))
+    (λ c. (rw (c .before .before .c3 .given .1) (c .less .ensures .0), c .less .ensures .1))
+    (λ c. (rw (c .before .before .c4 .given .1) (c .shifted .ensures .0), c .shifted .ensures .1))
+    (λ c. (rw (c .before .enum-told7 .given .1) (c .anything3 .ensures .0), c .anything3 .ensures .1))
+    (λ c. (rw (c .before .enum-told8 .given .1) (c .anything4 .ensures .0), c .anything4 .ensures .1))
+    (λ c. (rw (c .before .enum-told9 .given .1) (c .anything5 .ensures .0), c .anything5 .ensures .1))
+    (λ c. (rw (c .before .enum-told10 .given .1) (c .anything6 .ensures .0), c .anything6 .ensures .1))
+    (λ c. (rw (c .before .enum-told11 .given .1) (c .anything7 .ensures .0), c .anything7 .ensures .1)))

@@ -1,0 +1,55 @@
+-- `uses_of` meets its contract: each arm of the match is a line of the definition.
+-- Assumes nothing.
+use borrow.Author.Needs.{needs}
+use Rattle.transfer.proofs.uses_of.Statement.{statement}
+use Rattle.transfer.proofs.uses_of.Tie as tie
+
+pub uses-of-spec : {M : Type 1} → statement M
+uses-of-spec =
+    tie.close
+    (tie.spec
+    (λ c. search needs)
+    (λ c κs. search needs)
+    (λ c. search needs)
+    (λ c κs. search needs)
+    (λ c. search needs)
+    (λ c κs. search needs)
+    (λ c. search needs)
+    (λ c κs. search needs)
+    (λ c. search needs)
+    (λ c κs. search needs)
+    (λ c. search needs)
+    (λ c κs. search needs)
+    (λ c. search needs)
+    (λ c κs. search needs)
+    (λ c. search needs)
+    (λ c κs. search needs)
+    (λ c. search needs)
+    (λ c κs. search needs)
+    (λ c. search needs)
+    (λ c κs. search needs)
+    (λ c. search needs)
+    (λ c κs. search needs)
+    (λ c. search needs)
+    (λ c κs. search needs)
+    (λ c. search needs)
+    (λ c κs. search needs)
+    (λ c. search needs)
+    (λ c κs. search needs)
+    (λ c. search needs)
+    (λ c κs. search needs)
+    (λ c. rw (c .before .enum-told .given .1) (c .of .ensures))
+    (λ c. rw (c .before .before .c .given .1) (c .of2 .ensures))
+    (λ c. rw (c .before .before .c2 .given .1) (c .of3 .ensures))
+    (λ c. rw (c .before .before .c3 .given .1) (c .of4 .ensures))
+    (λ c. rw (c .before .before .c4 .given .1) (c .of5 .ensures))
+    (λ c. rw (c .before .before .c5 .given .1) (c .of6 .ensures))
+    (λ c. rw (c .before .before .c6 .given .1) (c .of7 .ensures))
+    (λ c. rw (c .before .before .c7 .given .1) (c .of8 .ensures))
+    (λ c. rw (c .before .before .c8 .given .1) (c .of9 .ensures))
+    (λ c. rw (c .before .before .c9 .given .1) (c .of10 .ensures))
+    (λ c. rw (c .before .before .c10 .given .1) (c .uses-in .ensures))
+    (λ c. rw (c .before .before .c11 .given .1) (c .uses-in2 .ensures))
+    (λ c. rw (c .before .before .c12 .given .1) (c .of11 .ensures))
+    (λ c. rw (c .before .enum-told2 .given .1) (c .of12 .ensures))
+    (λ c. rw (c .before .enum-told3 .given .1) (c .of13 .ensures)))
