@@ -15,8 +15,10 @@ use Rattle.core.specs.declared.Core.{Core}
 use Rattle.core.specs.declared.Pending.the-variants.{None}
 use Rattle.core.specs.Core.{movedOf, skippedOf, withFlags, withRemainder, withAccumulator}
 use Rattle.core.specs.Machine.{Machine}
-use Rattle.transfers.specs.Outcome.{faultedOf, doneOf, Outcome, outcomeWith, unwritten, writes}
-use Rattle.transfers.specs.Transfers.{jumpOf, immediateIn, counterIn, loadOf, receives, storeOf}
+use Rattle.outcome.specs.Outcome.{faultedOf, doneOf, Outcome, outcomeWith, unwritten, writes}
+use Rattle.jumps.specs.Jumps.{jumpOf}
+use Rattle.loads.specs.Loads.{immediateIn, counterIn, loadOf, receives}
+use Rattle.stores.specs.Stores.{storeOf}
 
 -- What an effect does to the machine.
 unfoldable pub applyOf : Processor → Machine → Effect → Outcome

@@ -3,22 +3,22 @@ ghost use mathlib.Core.Path.{_≡_};
 ghost use lib.ListN.{length};
 ghost use Rattle.processor.specs.Processor.{gpu};
 ghost use Rattle.core.specs.Machine.{machineWith, lent};
-ghost use Rattle.transfers.specs.Outcome.{outcomeWith};
+ghost use Rattle.outcome.specs.Outcome.{outcomeWith};
 ghost use Rattle.cpu.specs.Step.{applyOf};
 use core::Core;
 use effect::Effect;
+use jumps::jump;
+use loads::counter;
+use loads::immediate;
+use loads::load;
+use loads::receive;
+use loads::receive_next;
+use outcome::Moved;
+use outcome::done;
+use outcome::fault;
 use registers::get;
 use registers::put;
-use transfers::Moved;
-use transfers::counter;
-use transfers::done;
-use transfers::fault;
-use transfers::immediate;
-use transfers::jump;
-use transfers::load;
-use transfers::receive;
-use transfers::receive_next;
-use transfers::store;
+use stores::store;
 
 // The effect's changes to the active bank, the other bank, RAM and the core.
 pub fn apply(a: &mut [u32; 32], o: &mut [u32; 32], k: Core, ram: &mut [u8], e: Effect) -> Moved

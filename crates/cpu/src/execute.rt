@@ -4,7 +4,7 @@ ghost use Prim.Native.Nat.{_<_};
 ghost use lib.ListN.{length};
 ghost use Rattle.processor.specs.Processor.{gpu};
 ghost use Rattle.core.specs.Machine.{machineWith, lent};
-ghost use Rattle.transfers.specs.Outcome.{outcomeWith};
+ghost use Rattle.outcome.specs.Outcome.{outcomeWith};
 ghost use Rattle.cpu.specs.Step.{operandsOf, executeOf, advanceOf};
 use crate::apply::apply;
 use answers::Fault;
@@ -13,9 +13,9 @@ use effect::Operands;
 use effect::effect_at;
 use memory::Fetched;
 use memory::fetch;
+use outcome::Moved;
+use outcome::fault;
 use registers::get;
-use transfers::Moved;
-use transfers::fault;
 
 // What an instruction reads, by its source and destination fields.
 fn operands_of(a: &[u32; 32], k: Core, s: u32, d: u32) -> Operands

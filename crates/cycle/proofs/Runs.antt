@@ -7,8 +7,8 @@ use native.Mathlib.Omega.{arith}
 use Rattle.processor.specs.Processor.{Processor}
 use Rattle.answers.specs.declared.End.the-variants.{Completed}
 use Rattle.core.specs.Machine.{Memory, Machine, machineWith}
-use Rattle.transfers.specs.declared.Moved.{Moved}
-use Rattle.transfers.specs.Outcome.{outcomeWith}
+use Rattle.outcome.specs.declared.Moved.{Moved}
+use Rattle.outcome.specs.Outcome.{outcomeWith}
 use Rattle.cpu.specs.Step.{advanceOf}
 use Rattle.cycle.specs.Runs.{followedBy, runsOf}
 

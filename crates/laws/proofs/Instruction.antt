@@ -34,8 +34,10 @@ use Rattle.core.specs.declared.Pending.the-variants.{None, At}
 use Rattle.core.specs.Core.{movedOf}
 use Rattle.core.specs.Machine.{Machine, machineWith}
 use Rattle.core.specs.Types.{IsBank, IsCore, IsMachine}
-use Rattle.transfers.specs.Outcome.{movedWith, faultedOf, doneOf, Outcome, unwritten, writes}
-use Rattle.transfers.specs.Transfers.{jumpOf, immediateIn, counterIn, loadOf, receives, sameBank, storeOf}
+use Rattle.outcome.specs.Outcome.{movedWith, faultedOf, doneOf, Outcome, unwritten, writes}
+use Rattle.jumps.specs.Jumps.{jumpOf}
+use Rattle.loads.specs.Loads.{immediateIn, counterIn, loadOf, receives}
+use Rattle.stores.specs.Stores.{sameBank, storeOf}
 use Rattle.cpu.specs.Step.{applyOf, operandsOf, executeOf, fetchedOf, advanceOf}
 use Rattle.laws.proofs.Core.{bank-set, bytes-put, moved, skipped, flagged, remaindered, accumulated, with-mode, with-flag-register}
 use Rattle.laws.proofs.Longs.{LongFits, immediate-fits, counter-fits, load-fits}

@@ -18,7 +18,7 @@ use Rattle.core.specs.declared.Pending.{Pending}
 use Rattle.core.specs.declared.Pending.the-variants.{None, At}
 use Rattle.core.specs.Machine.{Memory}
 use Rattle.core.specs.Types.{HoldsBytes, IsCore}
-use Rattle.transfers.specs.Transfers.{immediateIn, counterIn, loadOf}
+use Rattle.loads.specs.Loads.{immediateIn, counterIn, loadOf}
 
 abbrev WordFits : Fetched → Type 0
 WordFits (F.Word w) = w < 2 ^ 16

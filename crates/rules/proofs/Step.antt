@@ -32,8 +32,10 @@ use Rattle.core.specs.declared.Pending.the-variants as Q
 use Rattle.core.specs.Core.{counterOf, movedOf, skippedOf}
 use Rattle.core.specs.Machine.{Memory, withRam, Machine, machineWith}
 use Rattle.core.specs.Types.{IsMachine}
-use Rattle.transfers.specs.Outcome.{movedWith, doneOf, Outcome, unwritten}
-use Rattle.transfers.specs.Transfers.{jumpOf, counterIn, loadOf, receives, storeOf}
+use Rattle.outcome.specs.Outcome.{movedWith, doneOf, Outcome, unwritten}
+use Rattle.jumps.specs.Jumps.{jumpOf}
+use Rattle.loads.specs.Loads.{counterIn, loadOf, receives}
+use Rattle.stores.specs.Stores.{storeOf}
 use Rattle.cpu.specs.Step.{applyOf, operandsOf, executeOf, advanceOf}
 use Rattle.laws.proofs.Instruction.{IsCompleted}
 use Rattle.ranges.specs.declared.Range.{Range}
