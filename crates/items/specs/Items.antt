@@ -1,6 +1,8 @@
 -- What stands at an offset of the code, and what the loading rules ask of it.
 use Prim.Native.Nat.{ℕ, _+_, _*_, _^_}
+use mathlib.Core.Bool.{Bool, true, false}
 use mathlib.Core.List.{List}
+use lib.Dec.{eqb}
 use Rattle.isa.specs.declared.Decoded.{Decoded}
 use Rattle.isa.specs.declared.Decoded.the-variants as D
 use Rattle.class.specs.declared.Class.{Class}
@@ -52,6 +54,31 @@ bytesOf (Jr n c) = 2
 bytesOf (Jump r c) = 2
 bytesOf (Load m) = 2
 bytesOf (Store m) = 2
+
+-- What rule 1 asks of it.
+abbrev pub isBuilt : Item → Bool
+isBuilt Unbuilt = false
+isBuilt (Built c v) = true
+
+-- a JR or JUMP
+abbrev pub jumps : Shape → Bool
+jumps Other = false
+jumps (Movei d v) = false
+jumps MovePc = false
+jumps (Jr n c) = true
+jumps (Jump r c) = true
+jumps (Load m) = false
+jumps (Store m) = false
+
+-- rule 5's "JR or JUMP with condition 0"
+abbrev pub always : Shape → Bool
+always Other = false
+always (Movei d v) = false
+always MovePc = false
+always (Jr n c) = eqb c 0
+always (Jump r c) = eqb c 0
+always (Load m) = false
+always (Store m) = false
 
 -- What rule 6 asks of it: its class, where what is not built changes nothing, and its long.
 abbrev pub classIn : Item → Class

@@ -5,7 +5,7 @@ ghost use Prim.Native.Nat.{_≤_, _<_};
 ghost use lib.ListN.{getD};
 ghost use Rattle.memory.specs.Memory.{wordAt};
 ghost use Rattle.processor.specs.Processor.{gpu};
-ghost use Rattle.items.specs.Items.{itemOf, shapeIn, shapeOf, bytesOf, classIn, longIn};
+ghost use Rattle.items.specs.Items.{itemOf, shapeIn, shapeOf, bytesOf, isBuilt, jumps, always, classIn, longIn};
 use class::Address;
 use class::Class;
 use class::class_of;
@@ -103,6 +103,45 @@ pub fn size(s: Shape) -> usize
         Shape::Jump(_, _) => 2,
         Shape::Load(_) => 2,
         Shape::Store(_) => 2,
+    }
+}
+
+// What rule 1 asks.
+pub fn is_built(t: Item) -> bool
+    ensures { λ r. ⌜ r ≡ isBuilt t ⌝ }
+{
+    match t {
+        Item::Unbuilt => false,
+        Item::Built(_, _) => true,
+    }
+}
+
+// What rules 4 and 5 ask: a JR or JUMP, and one with condition 0.
+pub fn is_jump(s: Shape) -> bool
+    ensures { λ r. ⌜ r ≡ jumps s ⌝ }
+{
+    match s {
+        Shape::Other => false,
+        Shape::Movei(_, _) => false,
+        Shape::MovePc => false,
+        Shape::Jr(_, _) => true,
+        Shape::Jump(_, _) => true,
+        Shape::Load(_) => false,
+        Shape::Store(_) => false,
+    }
+}
+
+pub fn always_jumps(s: Shape) -> bool
+    ensures { λ r. ⌜ r ≡ always s ⌝ }
+{
+    match s {
+        Shape::Other => false,
+        Shape::Movei(_, _) => false,
+        Shape::MovePc => false,
+        Shape::Jr(_, c) => c == 0,
+        Shape::Jump(_, c) => c == 0,
+        Shape::Load(_) => false,
+        Shape::Store(_) => false,
     }
 }
 

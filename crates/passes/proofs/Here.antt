@@ -11,9 +11,9 @@ use lib.ListN.{length}
 use Rattle.processor.specs.Processor.{Processor}
 use Rattle.items.specs.declared.Item.{Item}
 use Rattle.items.specs.declared.Shape.{Shape}
-use Rattle.items.specs.Items.{itemOf, shapeOf, bytesOf}
-use Rattle.rules.specs.Reading.{jumps, breaksSlot, always}
-use Rattle.rules.specs.Check.{isBuilt, isTarget, ok1, ok2, ok3, ok4, ok5, jrOk, jumpOk}
+use Rattle.items.specs.Items.{itemOf, shapeOf, bytesOf, jumps, always, isBuilt}
+use Rattle.rules.specs.Reading.{breaksSlot}
+use Rattle.rules.specs.Check.{isTarget, ok1, ok2, ok3, ok4, ok5, jrOk, jumpOk}
 use Rattle.values.proofs.Booleans.{by}
 use Rattle.reading.specs.Places.{Here}
 use Rattle.reading.proofs.Offsets.{item-at, item-here}

@@ -2,9 +2,8 @@
 ghost use mathlib.Core.Path.{_≡_};
 ghost use Prim.Native.Nat.{_+_, _<_};
 ghost use Rattle.processor.specs.Processor.{gpu};
-ghost use Rattle.rules.specs.Reading.{jumps, breaksSlot, always};
+ghost use Rattle.rules.specs.Reading.{breaksSlot};
 ghost use Rattle.rules.specs.Check.{holds, isStart, ok1, ok2, ok3, ok4, ok5};
-ghost use Rattle.rules.specs.Check as check;
 ghost use Rattle.reading.specs.Marks.{MarksStarts, MarksTargets};
 ghost use Rattle.reading.specs.Places.{Here};
 ghost use Rattle.passes.specs.Passes.{testOf};
@@ -12,6 +11,9 @@ use branch::jr_target;
 use field::signed_field;
 use items::Item;
 use items::Shape;
+use items::always_jumps;
+use items::is_built;
+use items::is_jump;
 use items::item_at;
 use items::shape_of;
 use items::size;
@@ -19,29 +21,6 @@ use processor::Gpu;
 use reading::MARKS;
 use reading::is_marked;
 use reading::is_target;
-
-fn is_built(t: Item) -> bool
-    ensures { λ r. ⌜ r ≡ check.isBuilt t ⌝ }
-{
-    match t {
-        Item::Unbuilt => false,
-        Item::Built(_, _) => true,
-    }
-}
-
-fn is_jump(s: Shape) -> bool
-    ensures { λ r. ⌜ r ≡ jumps s ⌝ }
-{
-    match s {
-        Shape::Other => false,
-        Shape::Movei(_, _) => false,
-        Shape::MovePc => false,
-        Shape::Jr(_, _) => true,
-        Shape::Jump(_, _) => true,
-        Shape::Load(_) => false,
-        Shape::Store(_) => false,
-    }
-}
 
 fn breaks_slot(s: Shape) -> bool
     ensures { λ r. ⌜ r ≡ breaksSlot s ⌝ }
@@ -52,20 +31,6 @@ fn breaks_slot(s: Shape) -> bool
         Shape::MovePc => true,
         Shape::Jr(_, _) => true,
         Shape::Jump(_, _) => true,
-        Shape::Load(_) => false,
-        Shape::Store(_) => false,
-    }
-}
-
-fn always_jumps(s: Shape) -> bool
-    ensures { λ r. ⌜ r ≡ always s ⌝ }
-{
-    match s {
-        Shape::Other => false,
-        Shape::Movei(_, _) => false,
-        Shape::MovePc => false,
-        Shape::Jr(_, c) => c == 0,
-        Shape::Jump(_, c) => c == 0,
         Shape::Load(_) => false,
         Shape::Store(_) => false,
     }

@@ -21,8 +21,8 @@ use Rattle.items.specs.declared.Item.the-variants.{Built}
 use Rattle.items.specs.declared.Shape.{Shape}
 use Rattle.items.specs.declared.Shape.the-variants.{Other, Movei, MovePc, Jr, Jump, Load, Store}
 use Rattle.verdicts.specs.declared.Rule.the-variants as N
-use Rattle.items.specs.Items.{shapeIn, shapeOf, bytesOf}
-use Rattle.rules.specs.Reading.{breaksSlot, always, endOf, itemAt, shapeAt, after, next}
+use Rattle.items.specs.Items.{shapeIn, shapeOf, bytesOf, always}
+use Rattle.rules.specs.Reading.{breaksSlot, endOf, itemAt, shapeAt, after, next}
 use Rattle.ranges.specs.Ranges.{unknown}
 use Rattle.rules.specs.Known.{transfer, transferOf}
 use Rattle.rules.specs.Check.{isTarget, learn}

@@ -15,11 +15,11 @@ use Rattle.items.specs.declared.Item.{Item}
 use Rattle.items.specs.declared.Item.the-variants.{Unbuilt, Built}
 use Rattle.items.specs.declared.Shape.{Shape}
 use Rattle.items.specs.declared.Shape.the-variants.{Other, Movei, MovePc, Jr, Jump, Load, Store}
-use Rattle.items.specs.Items.{shapeOf}
-use Rattle.rules.specs.Reading.{jumps, breaksSlot, always, endOf, itemAt, shapeAt, after, before, Reads, first, next}
+use Rattle.items.specs.Items.{shapeOf, jumps, always, isBuilt}
+use Rattle.rules.specs.Reading.{breaksSlot, endOf, itemAt, shapeAt, after, before, Reads, first, next}
 use Rattle.ranges.specs.Ranges.{unknown}
 use Rattle.rules.specs.Known.{addressRange, transferOf}
-use Rattle.rules.specs.Check.{isBuilt, holds, leads, inside, within, isStart, isTarget, learn, jrOk, jumpOk, accessOk, ok1, ok2, ok3, ok4, ok5, ok6}
+use Rattle.rules.specs.Check.{holds, leads, inside, within, isStart, isTarget, learn, jrOk, jumpOk, accessOk, ok1, ok2, ok3, ok4, ok5, ok6}
 use Rattle.rules.specs.Rules.{IsStart, Leads, by-jr, by-jump, IsTarget, Knows, at-first, at-target, onward, Inside, Accessible, in-ram, one-register, Reaches, Rule1, Rule2, Rule3, Rule4, Rule5, Rule6}
 use Rattle.values.proofs.Booleans.{by, no-way, and-l, and-r, and-i, or-cases, or-l, or-r, not-i, not-of}
 use Rattle.rules.proofs.Scan.{finds, is-found}

@@ -43,8 +43,8 @@ use Rattle.items.specs.declared.Item.{Item}
 use Rattle.items.specs.declared.Item.the-variants.{Unbuilt, Built}
 use Rattle.items.specs.declared.Shape.the-variants.{Other, Movei, MovePc, Jr, Jump, Load, Store}
 use Rattle.verdicts.specs.declared.Rule.the-variants as N
-use Rattle.items.specs.Items.{itemIn, itemOf, shapeIn, shapeOf, bytesOf}
-use Rattle.rules.specs.Reading.{jumps, breaksSlot, always, endOf, itemAt, shapeAt, after}
+use Rattle.items.specs.Items.{itemIn, itemOf, shapeIn, shapeOf, bytesOf, jumps, always}
+use Rattle.rules.specs.Reading.{breaksSlot, endOf, itemAt, shapeAt, after}
 use Rattle.ranges.specs.Ranges.{full, unknown, exactRange, isExactly}
 use Rattle.rules.specs.Known.{addressRange, transfer, transferOf}
 use Rattle.rules.specs.Rules.{IsTarget, by-jr, by-jump, Rules}

@@ -19,15 +19,11 @@ use Rattle.items.specs.declared.Item.{Item}
 use Rattle.items.specs.declared.Item.the-variants.{Unbuilt, Built}
 use Rattle.items.specs.declared.Shape.{Shape}
 use Rattle.items.specs.declared.Shape.the-variants.{Other, Movei, MovePc, Jr, Jump, Load, Store}
-use Rattle.items.specs.Items.{shapeOf}
-use Rattle.rules.specs.Reading.{jumps, breaksSlot, always, endOf, itemAt, shapeAt, after, before}
+use Rattle.items.specs.Items.{shapeOf, isBuilt, jumps, always}
+use Rattle.rules.specs.Reading.{breaksSlot, endOf, itemAt, shapeAt, after, before}
 use Rattle.rules.specs.Scan.{found, firstBad}
 use Rattle.ranges.specs.Ranges.{unknown}
 use Rattle.rules.specs.Known.{addressRange, transferOf}
-
-abbrev pub isBuilt : Item → Bool
-isBuilt Unbuilt = false
-isBuilt (Built c v) = true
 
 -- the instruction before was a MOVEI into r, of a value that the test lets through
 abbrev pub holds : Shape → ℕ → (ℕ → Bool) → Bool

@@ -2,23 +2,12 @@
 use Prim.Native.Nat.{ℕ, _+_, _-_, _<_}
 use mathlib.Core.Bool.{Bool, true, false}
 use mathlib.Core.List.{List}
-use lib.Dec.{eqb}
 use lib.ListN.{length}
 use Rattle.items.specs.declared.Item.{Item}
 use Rattle.items.specs.declared.Shape.{Shape}
 use Rattle.items.specs.declared.Shape.the-variants.{Other, Movei, MovePc, Jr, Jump, Load, Store}
 use Rattle.items.specs.Items.{itemOf, shapeOf, bytesOf}
 use Rattle.processor.specs.Processor.{Processor}
-
--- a JR or JUMP
-abbrev pub jumps : Shape → Bool
-jumps Other = false
-jumps (Movei d v) = false
-jumps MovePc = false
-jumps (Jr n c) = true
-jumps (Jump r c) = true
-jumps (Load m) = false
-jumps (Store m) = false
 
 -- rule 4's "JR, JUMP, MOVEI or MOVE PC"
 abbrev pub breaksSlot : Shape → Bool
@@ -29,16 +18,6 @@ breaksSlot (Jr n c) = true
 breaksSlot (Jump r c) = true
 breaksSlot (Load m) = false
 breaksSlot (Store m) = false
-
--- rule 5's "JR or JUMP with condition 0"
-abbrev pub always : Shape → Bool
-always Other = false
-always (Movei d v) = false
-always MovePc = false
-always (Jr n c) = eqb c 0
-always (Jump r c) = eqb c 0
-always (Load m) = false
-always (Store m) = false
 
 module _ (P : Processor) (code : List ℕ) where
   -- the first address behind the code

@@ -15,8 +15,8 @@ use Rattle.items.specs.declared.Shape.the-variants.{Movei, Jr, Jump, Load, Stor
 use Rattle.verdicts.specs.declared.Rule.{Rule}
 use Rattle.verdicts.specs.declared.Rule.the-variants.{AllBuilt, JrTarget, JumpTarget, DelaySlot, Ending, Access}
 use Rattle.verdicts.specs.Verdicts.{ruleNumber}
-use Rattle.items.specs.Items.{shapeOf}
-use Rattle.rules.specs.Reading.{jumps, breaksSlot, always, endOf, itemAt, shapeAt, after, before, Reads}
+use Rattle.items.specs.Items.{shapeOf, jumps, always}
+use Rattle.rules.specs.Reading.{breaksSlot, endOf, itemAt, shapeAt, after, before, Reads}
 use Rattle.ranges.specs.Ranges.{unknown}
 use Rattle.rules.specs.Known.{addressRange, transferOf}
 

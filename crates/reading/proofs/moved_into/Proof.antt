@@ -3,8 +3,8 @@
 use borrow.Author.Needs.{needs}
 use native.Mathlib.Omega.{arith}
 use borrow.Author.Tests.{eq-eqb, ne-eqb}
-use Rattle.reading.proofs.marks.moved_into.Statement.{statement}
-use Rattle.reading.proofs.marks.moved_into.Tie as tie
+use Rattle.reading.proofs.moved_into.Statement.{statement}
+use Rattle.reading.proofs.moved_into.Tie as tie
 
 returns : tie.Need-returns
 returns c = record { value = λ t n. rw (c .enum-told .given .1) (ne-eqb 0 t (λ z. omega (arith, n .low))) }

@@ -3,8 +3,8 @@
 use borrow.Author.Needs.{needs}
 use borrow.Author.Tests.{lt-ltb, le-ltb}
 use Rattle.reading.specs.Marks.{mark}
-use Rattle.reading.proofs.marks.set_mark.Statement.{statement}
-use Rattle.reading.proofs.marks.set_mark.Tie as tie
+use Rattle.reading.proofs.set_mark.Statement.{statement}
+use Rattle.reading.proofs.set_mark.Tie as tie
 
 returns : tie.Need-returns
 unfolding mark

@@ -3,8 +3,8 @@
 use borrow.Author.Needs.{needs}
 use borrow.Author.Tests.{lt-ltb, le-ltb}
 use Rattle.reading.specs.Marks.{markAt}
-use Rattle.reading.proofs.marks.is_marked.Statement.{statement}
-use Rattle.reading.proofs.marks.is_marked.Tie as tie
+use Rattle.reading.proofs.is_marked.Statement.{statement}
+use Rattle.reading.proofs.is_marked.Tie as tie
 
 returns : tie.Need-returns
 unfolding markAt

@@ -16,8 +16,8 @@ use Rattle.rules.specs.Check.{leads, isStart, isTarget}
 use Rattle.reading.specs.Marks.{markCount, Near, markAt}
 use Rattle.reading.proofs.Offsets.{item-at}
 use Rattle.reading.proofs.Marking.{Marked, marked-first, marked-on, marked-carry, marked-past, mark-at, length-mark}
-use Rattle.reading.proofs.marks.mark_code.Statement.{statement}
-use Rattle.reading.proofs.marks.mark_code.Tie as tie
+use Rattle.reading.proofs.mark_code.Statement.{statement}
+use Rattle.reading.proofs.mark_code.Tie as tie
 
 abbrev Inv-loop : tie.InvT-loop
 Inv-loop code starts₀ targets₀ i₀ p₀ starts targets i p =

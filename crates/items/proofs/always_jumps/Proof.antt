@@ -1,8 +1,8 @@
 -- `always_jumps` meets its contract: the two jumps are asked for condition 0.
 -- Assumes nothing.
 use borrow.Author.Needs.{needs}
-use Rattle.passes.proofs.tests.always_jumps.Statement.{statement}
-use Rattle.passes.proofs.tests.always_jumps.Tie as tie
+use Rattle.items.proofs.always_jumps.Statement.{statement}
+use Rattle.items.proofs.always_jumps.Tie as tie
 
 pub always-jumps-spec : {M : Type 1} → statement M
 always-jumps-spec =

@@ -8,8 +8,8 @@ use lib.Dec.{eqb}
 use mir.Syntax.{w32}
 use mir.Facts.{toZ-ofZ}
 use Rattle.branch.specs.Jump.{jrTargetOf}
-use Rattle.reading.proofs.marks.target.Statement.{statement}
-use Rattle.reading.proofs.marks.target.Tie as tie
+use Rattle.reading.proofs.target.Statement.{statement}
+use Rattle.reading.proofs.target.Tie as tie
 
 returns : tie.Need-returns
 returns c = record { target = λ t n. rw (c .enum-told .given .1) (ne-eqb 0 t (λ z. omega (arith, n .low))) }

@@ -3,8 +3,8 @@
 use borrow.Author.Needs.{needs}
 use mathlib.Core.Path.{_∙_}
 use native.Mathlib.Omega.{arith}
-use Rattle.reading.proofs.marks.is_target.Statement.{statement}
-use Rattle.reading.proofs.marks.is_target.Tie as tie
+use Rattle.reading.proofs.is_target.Statement.{statement}
+use Rattle.reading.proofs.is_target.Tie as tie
 
 returns : tie.Need-returns
 returns c = c .is-marked .ensures ∙ c .before .before .pre .1 .targets _ (record { low = omega arith; high = omega arith })
