@@ -28,7 +28,8 @@ explain: ## run an image and explain its card in plain words: IMAGE=FILE, as for
 	@$(MAKE) --no-print-directory $(if $(LENGTH),loadcheck,run) | target/bin/explain
 
 rows: ## run the published rows and the further vectors through the compiled functions
-	@tools/prove check vectors
+	@tools/prove check published vectors
+	@target/bin/published
 	@target/bin/vectors
 
 table: target/libgpu.so ## run each instruction of a table: TABLE=FILE.csv (default: docs/vectors/base.csv); draws target/table.html

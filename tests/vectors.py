@@ -1,4 +1,6 @@
-"""Prints what the program `vectors` must print, from the model alone."""
+"""Prints what the program `published` or `vectors` must print, from the model alone: python3 tests/vectors.py NAME"""
+
+import sys
 
 from model import M, ROWS, class_of, decode, effect, taken
 
@@ -125,9 +127,12 @@ def words():
     digest.show()
 
 
-def main():
+def published():
     for row in PUBLISHED:
         show(*row)
+
+
+def vectors():
     for name, mnemonics in FAMILIES:
         family(name, [op for op in range(64) if op in ROWS and ROWS[op][0] in mnemonics.split()])
     family("not built", [op for op in range(64) if op not in ROWS])
@@ -136,4 +141,4 @@ def main():
 
 
 if __name__ == "__main__":
-    main()
+    {"published": published, "vectors": vectors}[sys.argv[1]]()
