@@ -123,7 +123,8 @@ def words():
     digest = Digest("words")
     for w in range(65536):
         found = decode(w)
-        digest.take([1, w] + numbered(CLASSES, class_of(*found)) if found else [0])
+        read = numbered(CLASSES, class_of(*found)) if found else []
+        digest.take([6 if read and CLASSES[read[0]] == "movei" else 2] + ([1, w] + read if found else [0]))
     digest.show()
 
 

@@ -10,6 +10,9 @@ use effect::Effect;
 use effect::Operands;
 use effect::effect_at;
 use isa::Decoded;
+use items::item_at;
+use items::shape_of;
+use items::size;
 use values::Computed;
 use values::Flags;
 
@@ -107,10 +110,17 @@ fn class(sum: u32, c: Class) -> u32 {
     }
 }
 
+// How many bytes the loading check reads where a word stands.
+fn bytes_read(n: u32) -> u32 {
+    let code = [(n / 256 % 256) as u8, (n % 256) as u8];
+    size(shape_of(item_at(&code, 0))) as u32
+}
+
 fn word(n: u32, sum: u32) -> u32 {
+    let before = mix(sum, bytes_read(n));
     match decoder::decode((n % 65536) as u16) {
-        Decoded::Refused(_) => mix(sum, 0),
-        Decoded::Built(i) => class(mix2(sum, 1, isa::encode(i) as u32), class_of(i)),
+        Decoded::Refused(_) => mix(before, 0),
+        Decoded::Built(i) => class(mix2(before, 1, isa::encode(i) as u32), class_of(i)),
     }
 }
 

@@ -1,7 +1,7 @@
 // Runs some hundred thousand vectors through the compiled functions.
 //
-// They take every instruction through pairs of edge values, and all 65,536 words through decode, class and encode; of each
-// family of them a line tells the count and a checksum.
+// They take every instruction through pairs of edge values, and all 65,536 words through decode, class, encode and the
+// reading of the loading check; of each family of them a line tells the count and a checksum.
 // What this must print is made by the model in tests/vectors.py.
 mod digest;
 mod tables;
