@@ -22,7 +22,7 @@ use Rattle.transfer.specs.InPlace.{usesOf, rangeAfter, accessOf, forgetsOf}
 use Rattle.ranges.specs.Ordered.{Ordered, AllOrdered}
 use Rattle.ranges.proofs.Orders.{at-register, no-register}
 use Rattle.transfer.proofs.InPlace.{in-place}
-use Rattle.reading.specs.Places.{Here}
+use Rattle.reading.specs.Offsets.{Here}
 use Rattle.reading.proofs.Offsets.{item-here}
 use Rattle.items.specs.Items.{classIn, longIn}
 

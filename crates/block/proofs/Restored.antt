@@ -19,7 +19,7 @@ use Rattle.machine.specs.State.{IsState}
 use Rattle.values.proofs.Bits.{bit-fits}
 use Rattle.core.specs.Core.{waitingOf, targetOf}
 use Rattle.block.specs.Block.{blockLongs, blockLength, pcIndex, targetIndex, statusIndex, longs, putLongs, validOf, isValid, stateFrom, stateAt, activityBit, statusOf, restOf, longsOf, putState}
-use Rattle.block.specs.RoundTrip.{Writes}
+use Rattle.block.specs.RoundTrip.{RestoresState}
 use Rattle.block.proofs.Longs.{Words, none, one, all-words, words-append, puts-length, puts-append, longs-puts}
 
 -- seven bits of a status, with gaps between them that are clear
@@ -127,5 +127,5 @@ module _ (s : State) (is : IsState s) where
     in-parts =
         rw (puts-append block 0 (s .bank0), bank0-length, puts-append (putLongs block 0 (s .bank0)) (4 * 32) (s .bank1), bank1-length)
 
-    pub writes : {after : List ℕ} → after ≡ putState block s → (after ≡ putState block s) × Writes s after
-    writes e = (e, subst (Writes s) (sym e) (record { valid = state-valid; back = state-back }))
+    pub writes : {after : List ℕ} → after ≡ putState block s → (after ≡ putState block s) × RestoresState s after
+    writes e = (e, subst (RestoresState s) (sym e) (record { valid = state-valid; back = state-back }))

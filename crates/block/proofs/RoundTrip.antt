@@ -17,7 +17,7 @@ use Rattle.values.specs.Results.{isOne}
 use Rattle.core.specs.Types.{IsBytes}
 use Rattle.machine.proofs.Machines.{bit-back}
 use Rattle.block.specs.Block.{blockLongs, targetIndex, statusIndex, blockLong, longs, putLongs, validOf, pendingIn, stateFrom, stateAt, activityBit, statusOf, longsOf}
-use Rattle.block.specs.RoundTrip.{Reads}
+use Rattle.block.specs.RoundTrip.{RestoresBlock}
 use Rattle.block.proofs.Stored.{digits}
 use Rattle.block.proofs.Longs.{puts-longs}
 
@@ -69,6 +69,6 @@ unfolding stateAt longs
 longs-back block v =
     rw (target-back (blockLong block statusIndex) (blockLong block targetIndex) v, status-back (longs block 0 blockLongs) v)
 
-pub reads : {block : List ℕ} {s : State} → IsBytes block → s ≡ stateAt block → (s ≡ stateAt block) × Reads block s
+pub reads : {block : List ℕ} {s : State} → IsBytes block → s ≡ stateAt block → (s ≡ stateAt block) × RestoresBlock block s
 reads {block} is e =
-    (e, subst (Reads block) (sym e) (record { back = λ ok. ap (putLongs block 0) (longs-back block (valid _ _ ok)) ∙ puts-longs block 0 blockLongs is }))
+    (e, subst (RestoresBlock block) (sym e) (record { back = λ ok. ap (putLongs block 0) (longs-back block (valid _ _ ok)) ∙ puts-longs block 0 blockLongs is }))

@@ -4,7 +4,7 @@ ghost use Prim.Native.Nat.{_+_, _*_, _≤_, _<_};
 ghost use lib.ListN.{length};
 ghost use Rattle.values.specs.Results.{bitOf};
 ghost use Rattle.block.specs.Block.{blockLength, pcIndex, longs, putLongs, isValid, pendingIn, activityIn, stateAt, activityBit, statusOf, restOf, putState};
-ghost use Rattle.block.specs.RoundTrip.{Reads, Writes};
+ghost use Rattle.block.specs.RoundTrip.{RestoresBlock, RestoresState};
 use core::Activity;
 use core::Pending;
 use core::target;
@@ -86,7 +86,7 @@ fn activity(status: u32) -> Activity
 pub fn read(block: &[u8]) -> State
     requires { ⌜ blockLength ≤ length (now block) ⌝ }
     ensures { λ r. ⌜ r ≡ stateAt (now (block .entry)) ⌝ }
-    ensures { λ r. ⌜ Reads (now (block .entry)) r ⌝ }
+    ensures { λ r. ⌜ RestoresBlock (now (block .entry)) r ⌝ }
 {
     let b0 = read_bank(block, 0);
     let b1 = read_bank(block, BANK1);
@@ -167,7 +167,7 @@ fn write_rest(block: &mut [u8], s: State)
 pub fn write(block: &mut [u8], s: State)
     requires { ⌜ blockLength ≤ length (now block) ⌝ }
     ensures { λ _. ⌜ now (block .exit) ≡ putState (now (block .entry)) s ⌝ }
-    ensures { λ _. ⌜ Writes s (now (block .exit)) ⌝ }
+    ensures { λ _. ⌜ RestoresState s (now (block .exit)) ⌝ }
 {
     let b0 = s.bank0;
     let b1 = s.bank1;

@@ -27,7 +27,7 @@ use Rattle.rules.proofs.Examples.{gpu-goes-on}
 use Rattle.block.specs.Block.{blockLength, pcIndex, blockLong, longs, isValid, stateAt, putState}
 use Rattle.block.proofs.Restored.{state-back, state-length, state-valid}
 use Rattle.calls.specs.Call.{Call, called, ranOn, callOf, checkReply}
-use Rattle.calls.specs.Display.{afterCalls, HandedOver, Shown, Display}
+use Rattle.calls.specs.Display.{afterCalls, HandedOver, SafeCall, Display}
 use Rattle.calls.proofs.Typed.{state-typed}
 
 -- a reply of 0 admits
@@ -84,12 +84,12 @@ module _ {memory : Memory} {block : List ℕ} {s : State} (l : Linked memory blo
       (ap (λ c. c .memory) e, subst (λ c. Linked (runOf gpu memory s budget .memory) (c .block) (runOf gpu memory s budget .ran .state)) (sym e) linked-after))
 
   -- what a safe run shows
-  shown : {code : List ℕ} → Safe gpu code memory s budget → budget ≤ budgetLimit → Shown code (callOf memory block budget)
+  shown : {code : List ℕ} → Safe gpu code memory s budget → budget ≤ budgetLimit → SafeCall code (callOf memory block budget)
   unfolding stateAt longs
   shown {code} safe allowed =
       let kept = subst (Kept gpu code) (safe .ends) (safe .keeps (runOf gpu memory s budget .ran .steps) (omega arith)) in
       let pc : blockLong (putState block (runOf gpu memory s budget .ran .state)) pcIndex ≡ runOf gpu memory s budget .ran .state .pc = ap (λ t. t .pc) (linked-after .same) in
-      subst (Shown code) (sym (called-as allowed))
+      subst (SafeCall code) (sym (called-as allowed))
       (record { answers = omega (arith, safe .answers); same-code = kept .same-code; at-start = subst (IsStart gpu code) (sym pc) (kept .at-start) })
 
 -- calls one after another are runs one after another
@@ -121,5 +121,5 @@ display =
           let a = along budgets (called 0 memory block) (linked h) in
           let c = afterCalls budgets (called 0 memory block) in
           let safe = gpu-goes-on .goes-on admitted C (admits _ e) memory (stateAt block) (loaded h) budgets budget allowed in
-          subst (λ r. Shown (take C admitted) (callOf r (c .block) budget)) (sym (a .0)) (shown (a .1) budget safe allowed);
+          subst (λ r. SafeCall (take C admitted) (callOf r (c .block) budget)) (sym (a .0)) (shown (a .1) budget safe allowed);
     }

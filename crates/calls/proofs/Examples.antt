@@ -13,7 +13,7 @@ use Rattle.machine.specs.Run.{budgetLimit}
 use Rattle.rules.proofs.Examples.{card, card-admitted, card-memory, below, below-at}
 use Rattle.block.specs.Block.{blockLength, pcIndex, statusIndex, longs, stateAt}
 use Rattle.calls.specs.Call.{called, checkReply}
-use Rattle.calls.specs.Display.{afterCalls, HandedOver, Shown}
+use Rattle.calls.specs.Display.{afterCalls, HandedOver, SafeCall}
 use Rattle.calls.proofs.Calls.{display}
 
 -- "starts at F03000h, running, all else zero"
@@ -32,5 +32,5 @@ handed-over =
       begins = record { runs = refl; at-first = refl; none-pending = refl };
     }
 
-pub card-shown : (budgets : List ℕ) (budget : ℕ) → budget ≤ budgetLimit → Shown (take 16 card) (afterCalls (budget ∷ []) (afterCalls budgets (called 0 (lent card) start)))
+pub card-shown : (budgets : List ℕ) (budget : ℕ) → budget ≤ budgetLimit → SafeCall (take 16 card) (afterCalls (budget ∷ []) (afterCalls budgets (called 0 (lent card) start)))
 card-shown = display .shows card 16 (ap checkReply card-admitted) (lent card) start handed-over

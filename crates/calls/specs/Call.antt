@@ -8,7 +8,7 @@ use Rattle.processor.specs.Processor.{gpu}
 use Rattle.answers.specs.Answers.{numberOf}
 use Rattle.answers.specs.declared.Answer.the-variants.{RamLength, BudgetLimit, BlockRule, BlockLength}
 use Rattle.verdicts.specs.declared.Verdict.{Verdict}
-use Rattle.verdicts.specs.Verdicts as verdicts
+use Rattle.verdicts.specs.Verdicts.{verdictNumber, verdictAddress}
 use Rattle.core.specs.Machine.{Memory}
 use Rattle.machine.specs.Run.{Result, runOf, budgetLimit}
 use Rattle.block.specs.Block.{blockLength, isValid, stateAt, putState}
@@ -40,4 +40,4 @@ callOf memory block budget =
 
 -- The check's reply: answer + 256 × address.
 abbrev pub checkReply : Verdict → ℕ
-checkReply v = verdicts.numberOf v + 256 * verdicts.addressOf v
+checkReply v = verdictNumber v + 256 * verdictAddress v

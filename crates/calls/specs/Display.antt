@@ -10,7 +10,7 @@ use Rattle.core.specs.Machine.{Memory}
 use Rattle.core.specs.Types.{IsBytes, IsMemory}
 use Rattle.rules.specs.Check.{checkOf}
 use Rattle.rules.specs.Rules.{IsStart}
-use Rattle.rules.specs.Safety.{Begins}
+use Rattle.rules.specs.Safety.{StartState}
 use Rattle.block.specs.Block.{blockLength, pcIndex, blockLong, isValid, stateAt}
 use Rattle.calls.specs.Call.{Call, called, callOf, checkReply}
 
@@ -28,11 +28,11 @@ pub record HandedOver (admitted : List ℕ) (C : ℕ) (memory : Memory) (block :
   pub block-bytes : IsBytes block
   pub same-code : take C (memory .ram) ≡ take C admitted
   pub valid : isValid block ≡ true
-  pub begins : Begins gpu (stateAt block)
+  pub begins : StartState gpu (stateAt block)
 
 -- What a call gives: the answer, the low byte of the reply, is 0 or 1; the code is in RAM byte for byte; and the counter in
 -- the block is an instruction start.
-pub record Shown (code : List ℕ) (c : Call) : Type 0 where
+pub record SafeCall (code : List ℕ) (c : Call) : Type 0 where
   pub answers : c .reply % 256 ≤ 1
   pub same-code : take (length code) (c .memory .ram) ≡ code
   pub at-start : IsStart gpu code (blockLong (c .block) pcIndex)
@@ -41,4 +41,4 @@ pub record Shown (code : List ℕ) (c : Call) : Type 0 where
 pub record Display : Type 0 where
   pub shows : (admitted : List ℕ) (C : ℕ) → checkReply (checkOf gpu admitted C) ≡ 0 → (memory : Memory) (block : List ℕ) → HandedOver admitted C memory block
       → (budgets : List ℕ) (budget : ℕ) → budget ≤ budgetLimit
-      → Shown (take C admitted) (afterCalls (budget ∷ []) (afterCalls budgets (called 0 memory block)))
+      → SafeCall (take C admitted) (afterCalls (budget ∷ []) (afterCalls budgets (called 0 memory block)))

@@ -8,7 +8,8 @@ use Rattle.effect.specs.declared.Effect.{Effect}
 use Rattle.effect.specs.declared.Effect.the-variants as E
 use Rattle.effect.specs.declared.Operands.{Operands}
 use Rattle.processor.specs.Processor.{Processor}
-use Rattle.memory.specs.Memory.{fetchOf, placeOf}
+use Rattle.memory.specs.Memory.{fetchOf}
+use Rattle.places.specs.Places.{placeOf}
 use Rattle.memory.specs.declared.Fetched.{Fetched}
 use Rattle.memory.specs.declared.Fetched.the-variants as F
 use Rattle.core.specs.declared.Core.{Core}

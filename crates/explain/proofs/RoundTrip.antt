@@ -11,7 +11,7 @@ use borrow.Author.Tests.{lt-ltb, le-ltb, lt-leb, eq-eqb, ne-eqb, ltb-true, ltb-f
 use lib.Dec.{ltb}
 use lib.ListN.{length, length-append}
 use Rattle.text.specs.Bytes.{bytes}
-use Rattle.lines.specs.Lines.{lineOf, checkText}
+use Rattle.lines.specs.Lines.{lineOf, checkLines}
 use Rattle.text.specs.Digits.{digitOf, hexDigits, decimalDigits, decimalOf}
 use Rattle.text.proofs.Digits.{decimal-length}
 use Rattle.card.specs.declared.Card.{Card}
@@ -124,8 +124,8 @@ no-steps : (digits : List ℕ) → keyedIn decimal stepsKey (lineOf (bytes "addr
 unfolding keyedIn lineOf bytes
 no-steps digits = refl
 
-check-round-trip : (answer address : ℕ) → answer < 2 ^ 32 → address < 2 ^ 32 → readingOf (checkText answer address) ≡ Check answer address
-unfolding readingOf checkReading checkText bytes
+check-round-trip : (answer address : ℕ) → answer < 2 ^ 32 → address < 2 ^ 32 → readingOf (checkLines answer address) ≡ Check answer address
+unfolding readingOf checkReading checkLines bytes
 check-round-trip answer address a b =
     rw (decimal-line answerKey answer _ a, no-steps (hexDigits 8 address), ← append-nil (lineOf (bytes "address=") (hexDigits 8 address)), hex-line (bytes "address=") address [] b)
 

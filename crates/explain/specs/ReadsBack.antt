@@ -2,7 +2,7 @@
 use Prim.Native.Nat.{ℕ, _^_, _<_}
 use mathlib.Core.Path.{_≡_}
 use Rattle.text.specs.Bytes.{bytes}
-use Rattle.lines.specs.Lines as lines
+use Rattle.lines.specs.Lines.{checkLines}
 use Rattle.card.specs.declared.Card.{Card}
 use Rattle.card.specs.Text.{cardText}
 use Rattle.template.specs.Fill.{filled}
@@ -21,4 +21,4 @@ pub record Fits (card : Card) : Type 0 where
 pub record ReadsBack : Type 0 where
   pub cards : (card : Card) → Fits card → explanationOf (cardText card) ≡ filled (bytes (runText (card .answer))) (card .pc) (card .steps)
   pub checks : (answer address : ℕ) → answer < 2 ^ 32 → address < 2 ^ 32
-      → explanationOf (lines.checkText answer address) ≡ filled (bytes (checkText answer)) address 0
+      → explanationOf (checkLines answer address) ≡ filled (bytes (checkText answer)) address 0

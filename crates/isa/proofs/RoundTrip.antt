@@ -14,7 +14,7 @@ use Rattle.isa.specs.declared.Decoded.the-variants.{Built}
 use Rattle.isa.specs.declared.form.Form.{Form}
 use Rattle.isa.specs.Table.{formOf, instructions}
 use Rattle.isa.specs.Words.{noInstruction, wordOf, opcodeIn, sourceIn, destinationIn, oneOf, unbuiltOpcodes, built, instructionAt, decodedAt, encodeOf, decodeOf}
-use Rattle.isa.specs.RoundTrip.{WellFormed, isBuilt, builtWord, Decodes, Encodes}
+use Rattle.isa.specs.RoundTrip.{WellFormed, isDecoded, builtWord, Decodes, Encodes}
 use Rattle.isa.proofs.Each.{each}
 
 abbrev fieldsIn : Form → List ℕ
@@ -94,14 +94,14 @@ module _ (w : ℕ) (small : w < 65536) where
   go : {r : Decoded} (t : Bool) → builtWord w ≡ t → r ≡ cond t (Built (instructionAt (w / 1024) (w / 32 % 32) (w % 32))) noInstruction → Decodes w r
   go true b e =
       record {
-        is-built = ap isBuilt e ∙ sym b;
+        is-built = ap isDecoded e ∙ sym b;
         back = λ i r.
             let same-instruction : instructionAt (w / 1024) (w / 32 % 32) (w % 32) ≡ i = cc in
             back-at i (ap (λ j. fieldsIn (formOf j)) (sym same-instruction) ∙ fields-kept (w / 1024) (w / 32 % 32) (w % 32) (omega arith) b);
       }
   go false b e =
       record {
-        is-built = ap isBuilt e ∙ sym b;
+        is-built = ap isDecoded e ∙ sym b;
         back = λ i r. let never : _≡_ {A = ℕ} 0 1 = cc in absurd (omega arith);
       }
 

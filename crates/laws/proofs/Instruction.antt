@@ -12,13 +12,14 @@ use Rattle.isa.specs.declared.Decoded.{Decoded}
 use Rattle.isa.specs.declared.Decoded.the-variants as D
 use Rattle.values.specs.Results.{flagsOf}
 use Rattle.processor.specs.Processor.{Processor, Sound}
-use Rattle.memory.specs.Memory.{placeOf, fetchOf}
+use Rattle.memory.specs.Memory.{fetchOf}
+use Rattle.places.specs.Places.{placeOf}
 use Rattle.memory.specs.declared.Fetched.{Fetched}
 use Rattle.memory.specs.declared.Fetched.the-variants as F
 use Rattle.memory.specs.declared.Received.{Received}
 use Rattle.memory.specs.declared.Received.the-variants as I
-use Rattle.memory.specs.declared.Place.{Place}
-use Rattle.memory.specs.declared.Place.the-variants as M
+use Rattle.places.specs.declared.Place.{Place}
+use Rattle.places.specs.declared.Place.the-variants as M
 use Rattle.effect.specs.Effects.{effectOf, effectIn}
 use Rattle.effect.specs.declared.Effect.{Effect}
 use Rattle.effect.specs.declared.Effect.the-variants as E

@@ -11,8 +11,8 @@ use Rattle.memory.specs.declared.Fetched.{Fetched}
 use Rattle.memory.specs.declared.Fetched.the-variants as F
 use Rattle.memory.specs.declared.Received.{Received}
 use Rattle.memory.specs.declared.Received.the-variants as I
-use Rattle.memory.specs.declared.Place.{Place}
-use Rattle.memory.specs.declared.Place.the-variants as M
+use Rattle.places.specs.declared.Place.{Place}
+use Rattle.places.specs.declared.Place.the-variants as M
 use Rattle.core.specs.declared.Core.{Core}
 use Rattle.core.specs.declared.Pending.{Pending}
 use Rattle.core.specs.declared.Pending.the-variants.{None, At}

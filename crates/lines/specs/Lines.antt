@@ -9,5 +9,5 @@ unfoldable pub lineOf : List ℕ → List ℕ → List ℕ
 lineOf key value = key ++ (value ++ (10 ∷ []))
 
 -- What the check answers: its number in decimal, and the address it tells as eight hex digits.
-unfoldable pub checkText : ℕ → ℕ → List ℕ
-checkText answer address = lineOf (bytes "answer=") (decimalOf answer) ++ lineOf (bytes "address=") (hexDigits 8 address)
+unfoldable pub checkLines : ℕ → ℕ → List ℕ
+checkLines answer address = lineOf (bytes "answer=") (decimalOf answer) ++ lineOf (bytes "address=") (hexDigits 8 address)

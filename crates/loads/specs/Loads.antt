@@ -6,8 +6,8 @@ use Rattle.processor.specs.Processor.{Processor}
 use Rattle.memory.specs.Memory.{longAt, immediateOf}
 use Rattle.memory.specs.declared.Received.{Received}
 use Rattle.memory.specs.declared.Received.the-variants.{Long, Refused}
-use Rattle.memory.specs.declared.Place.{Place}
-use Rattle.memory.specs.declared.Place.the-variants as M
+use Rattle.places.specs.declared.Place.{Place}
+use Rattle.places.specs.declared.Place.the-variants as M
 use Rattle.answers.specs.declared.Fault.the-variants.{JumpPending}
 use Rattle.answers.specs.declared.End.the-variants.{Completed}
 use Rattle.core.specs.declared.Core.{Core}

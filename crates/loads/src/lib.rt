@@ -2,7 +2,7 @@
 ghost use mathlib.Core.Path.{_≡_};
 ghost use lib.ListN.{length};
 ghost use Rattle.processor.specs.Processor.{gpu};
-ghost use Rattle.memory.specs.Memory.{placeOf};
+ghost use Rattle.places.specs.Places.{placeOf};
 ghost use Rattle.core.specs.Core.{movedOf};
 ghost use Rattle.core.specs.declared.Pending.the-variants.{None};
 ghost use Rattle.core.specs.Machine.{lent};
@@ -11,15 +11,15 @@ use answers::End;
 use answers::Fault;
 use core::Core;
 use core::Pending;
-use memory::Place;
 use memory::Received;
 use memory::fetch_long;
-use memory::locate;
 use memory::long_at;
 use outcome::Moved;
 use outcome::done;
 use outcome::ended;
 use outcome::fault;
+use places::Place;
+use places::locate;
 use registers::put;
 
 // The long of a MOVEI.

@@ -1,3 +1,2 @@
-pub mod Places
 pub mod Refusals
-pub mod Offsets
+mod Offsets

@@ -1,19 +1,18 @@
--- An address told by its offset from the base modulo 2^32: whether it lies in local RAM, and where, at every sound processor.
+-- A counter told by its offset from the base modulo 2^32: whether it lies in local RAM, and where, at every sound processor.
 -- Assumes nothing.
 use mathlib.Core.Path.{_≡_, refl}
 use mathlib.Core.Bool.{Bool, true, false, cond}
 use mathlib.Core.List.{List}
 use Prim.Native.Nat.{ℕ, _+_, _-_, _*_, _%_, _^_, _<_, _≤_}
 use native.Mathlib.Omega.{arith}
-use borrow.Author.Tests.{eq-eqb, ne-eqb, lt-ltb, le-ltb, eqb-true, eqb-false, ltb-true, ltb-false}
+use borrow.Author.Tests.{ne-eqb, lt-ltb, le-ltb, eqb-true, eqb-false, ltb-true, ltb-false}
 use lib.Dec.{eqb, ltb}
 use lib.ListN.{length}
 use Rattle.processor.specs.Processor.{Processor, Sound}
-use Rattle.memory.specs.Memory.{wordAt, noWord, fetchOf, immediateOf, placeOf, registerOf}
+use Rattle.memory.specs.Memory.{wordAt, noWord, fetchOf, immediateOf}
 use Rattle.memory.specs.declared.Fetched.the-variants.{Word}
 use Rattle.answers.specs.declared.Fault.the-variants.{BadCounter}
 use Rattle.memory.specs.declared.Received.the-variants as I
-use Rattle.memory.specs.declared.Place.the-variants.{Ram}
 
 module _ (P : Processor) (sound : Sound P) where
   module _ (a at : ℕ) (e : (at + P .base) % 2 ^ 32 ≡ a) (fits : at < 2 ^ 32) where
@@ -35,21 +34,6 @@ module _ (P : Processor) (sound : Sound P) where
               let even = eqb-false (a % 2) 1 et in
               let below = ltb-true (a - P .base + 1) (length ram) eu in
               absurd (h (omega (arith, even, sound .top, sound .base-aligned)) (omega (arith, sound .top)))
-
-    module _ (aligned : a % 4 ≡ 0) where
-      pub ram-place : at < P .size → placeOf P a ≡ Ram at
-      ram-place h =
-          let d : a - P .base ≡ at = omega (arith, sound .top) in
-          rw (eq-eqb (a % 4) 0 aligned, le-ltb a (P .base) (omega (arith, sound .top)), d, lt-ltb at (P .size) h)
-
-      pub register-place : P .size ≤ at → placeOf P a ≡ registerOf P a
-      register-place h = rw (eq-eqb (a % 4) 0 aligned) (go (ltb a (P .base)) refl)
-        where
-          go : (t : Bool) → ltb a (P .base) ≡ t → cond t (registerOf P a) (cond (ltb (a - P .base) (P .size)) (Ram (a - P .base)) (registerOf P a)) ≡ registerOf P a
-          go true below = refl
-          go false above =
-              let l : P .base ≤ a = ltb-false a (P .base) above in
-              rw (le-ltb (a - P .base) (P .size) (omega (arith, sound .top)))
 
   -- the long behind pc, by the offset of its first word
   module _ (pc at : ℕ) (e : (at + P .base) % 2 ^ 32 ≡ (pc + 2) % 2 ^ 32) (fits : at < 2 ^ 32) (ram : List ℕ) (whole : length ram ≡ P .size) where

@@ -1,16 +1,14 @@
--- Local RAM and the address map, over a processor's constants. RAM is a list of bytes, "longs and words high byte first".
+-- Local RAM, over a processor's constants: a list of bytes, "longs and words high byte first".
 use Prim.Native.Nat.{ℕ, _+_, _-_, _*_, _/_, _%_, _^_}
 use mathlib.Core.List.{List}
-use mathlib.Core.Bool.{Bool, true, false, cond}
+use mathlib.Core.Bool.{cond}
 use lib.ListN.{length, getD, set}
 use lib.Dec.{eqb, ltb}
-use Rattle.answers.specs.declared.Fault.the-variants.{BadCounter, Misaligned, Unmapped}
+use Rattle.answers.specs.declared.Fault.the-variants.{BadCounter}
 use Rattle.memory.specs.declared.Fetched.{Fetched}
 use Rattle.memory.specs.declared.Fetched.the-variants.{Word, Refused}
 use Rattle.memory.specs.declared.Received.{Received}
 use Rattle.memory.specs.declared.Received.the-variants as I
-use Rattle.memory.specs.declared.Place.{Place}
-use Rattle.memory.specs.declared.Place.the-variants as M
 use Rattle.processor.specs.Processor.{Processor}
 
 abbrev pub wordAt : List ℕ → ℕ → ℕ
@@ -46,26 +44,3 @@ lowOf (Refused f) second = I.Refused f
 
 unfoldable pub immediateOf : Processor → List ℕ → ℕ → Received
 immediateOf P ram pc = lowOf (fetchOf P ram ((pc + 2) % 2 ^ 32)) (fetchOf P ram ((pc + 4) % 2 ^ 32))
-
--- "address neither in local RAM nor a built register"
-abbrev pub registerOf : Processor → ℕ → Place
-registerOf P a =
-    cond (eqb a (P .flags)) M.Flags (cond (eqb a (P .control)) M.Control (cond (eqb a (P .divide)) M.Divide (M.Refused Unmapped)))
-
--- Whether an address leads anywhere, and whether it is a built register's.
-abbrev pub isMapped : Place → Bool
-isMapped (M.Ram at) = true
-isMapped M.Flags = true
-isMapped M.Control = true
-isMapped M.Divide = true
-isMapped (M.Refused f) = false
-
-abbrev pub isRegister : Processor → ℕ → Bool
-isRegister P a = isMapped (registerOf P a)
-
--- Where an address leads; 13 is "address not a multiple of 4".
-abbrev pub placeOf : Processor → ℕ → Place
-placeOf P a =
-    cond (eqb (a % 4) 0)
-    (cond (ltb a (P .base)) (registerOf P a) (cond (ltb (a - P .base) (P .size)) (M.Ram (a - P .base)) (registerOf P a)))
-    (M.Refused Misaligned)

@@ -1,9 +1,9 @@
-// Local RAM, lent as bytes, and the addresses that a LOAD or STORE can reach. Words and longs are stored high byte first.
+// Local RAM, lent as bytes. Words and longs are stored high byte first.
 ghost use mathlib.Core.Path.{_≡_};
-ghost use Prim.Native.Nat.{_+_, _%_, _^_, _≤_, _<_};
+ghost use Prim.Native.Nat.{_+_, _≤_, _<_};
 ghost use lib.ListN.{length};
 ghost use Rattle.processor.specs.Processor.{gpu};
-ghost use Rattle.memory.specs.Memory.{wordAt, longAt, putLong, fetchOf, immediateOf, registerOf, isMapped, isRegister, placeOf};
+ghost use Rattle.memory.specs.Memory.{wordAt, longAt, putLong, fetchOf, immediateOf};
 use answers::Fault;
 use processor::Gpu;
 
@@ -16,15 +16,6 @@ pub enum Fetched {
 // A long that a register is to receive, or the refusal.
 pub enum Received {
     Long(u32),
-    Refused(Fault),
-}
-
-// Where an address leads: to a byte of local RAM, to one of the built chip registers, or to a refusal.
-pub enum Place {
-    Ram(usize),
-    Flags,
-    Control,
-    Divide,
     Refused(Fault),
 }
 
@@ -42,18 +33,11 @@ fn word_at(ram: &[u8], at: usize) -> u32
     wide(ram[at]) * 256 + wide(ram[at + 1])
 }
 
-// The address less the base, modulo 2^32: below the size for an address in RAM, and for no other.
-fn offset(a: u32) -> u32
-    ensures { λ r. ⌜ ((r + gpu .base) % 2 ^ 32 ≡ a) × (r < 2 ^ 32) ⌝ }
-{
-    std::num::wrapping_sub_u32(a, Gpu::BASE)
-}
-
 pub fn fetch(ram: &[u8], pc: u32) -> Fetched
     requires { ⌜ length (now ram) ≡ gpu .size ⌝ }
     ensures { λ r. ⌜ r ≡ fetchOf gpu (now (ram .entry)) pc ⌝ }
 {
-    let at = offset(pc) as usize;
+    let at = Gpu::offset(pc) as usize;
     // Even, and below the size, by one test of its bits: the size is a power of two.
     if at - at % Gpu::SIZE + at % 2 == 0 {
         Fetched::Word(word_at(ram, at) as u16)
@@ -67,7 +51,7 @@ pub fn fetch_long(ram: &[u8], pc: u32) -> Received
     requires { ⌜ length (now ram) ≡ gpu .size ⌝ }
     ensures { λ r. ⌜ r ≡ immediateOf gpu (now (ram .entry)) pc ⌝ }
 {
-    let at = offset(std::num::wrapping_add_u32(pc, 2)) as usize;
+    let at = Gpu::offset(std::num::wrapping_add_u32(pc, 2)) as usize;
     if at % 2 == 1 {
         return Received::Refused(Fault::BadCounter);
     }
@@ -100,48 +84,4 @@ pub fn put_long(ram: &mut [u8], at: usize, v: u32)
     ram[at + 1] = (v / 65536 % 256) as u8;
     ram[at + 2] = (v / 256 % 256) as u8;
     ram[at + 3] = (v % 256) as u8;
-}
-
-pub fn locate(a: u32) -> Place
-    ensures { λ r. ⌜ r ≡ placeOf gpu a ⌝ }
-{
-    if a % 4 != 0 {
-        return Place::Refused(Fault::Misaligned);
-    }
-    let at = offset(a) as usize;
-    if at < Gpu::SIZE {
-        Place::Ram(at)
-    } else {
-        register_at(a)
-    }
-}
-
-fn is_mapped(p: Place) -> bool
-    ensures { λ r. ⌜ r ≡ isMapped p ⌝ }
-{
-    match p {
-        Place::Ram(_) => true,
-        Place::Flags => true,
-        Place::Control => true,
-        Place::Divide => true,
-        Place::Refused(_) => false,
-    }
-}
-
-// Whether an address is a built register's.
-pub fn is_register(a: u32) -> bool
-    ensures { λ r. ⌜ r ≡ isRegister gpu a ⌝ }
-{
-    is_mapped(register_at(a))
-}
-
-fn register_at(a: u32) -> Place
-    ensures { λ r. ⌜ r ≡ registerOf gpu a ⌝ }
-{
-    match a {
-        Gpu::FLAGS => Place::Flags,
-        Gpu::CONTROL => Place::Control,
-        Gpu::DIVIDE => Place::Divide,
-        _ => Place::Refused(Fault::Unmapped),
-    }
 }

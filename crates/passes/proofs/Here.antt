@@ -15,7 +15,7 @@ use Rattle.items.specs.Items.{itemOf, shapeOf, bytesOf, jumps, always, isBuilt}
 use Rattle.rules.specs.Reading.{breaksSlot}
 use Rattle.rules.specs.Check.{isTarget, ok1, ok2, ok3, ok4, ok5, jrOk, jumpOk}
 use Rattle.values.proofs.Booleans.{by}
-use Rattle.reading.specs.Places.{Here}
+use Rattle.reading.specs.Offsets.{Here}
 use Rattle.reading.proofs.Offsets.{item-at, item-here}
 
 module _ (P : Processor) where

@@ -7,7 +7,7 @@ ghost use Rattle.processor.specs.Processor.{gpu};
 ghost use Rattle.rules.specs.Scan.{found};
 ghost use Rattle.rules.specs.Check.{firstFailing};
 ghost use Rattle.reading.specs.Marks.{MarksStarts, MarksTargets};
-ghost use Rattle.reading.specs.Places.{Here};
+ghost use Rattle.reading.specs.Offsets.{Here};
 ghost use Rattle.passes.specs.Passes.{lowestOf, testOf};
 use crate::tests::obeys;
 use items::Item;

@@ -5,7 +5,7 @@ ghost use Rattle.processor.specs.Processor.{gpu};
 ghost use Rattle.rules.specs.Reading.{breaksSlot};
 ghost use Rattle.rules.specs.Check.{holds, isStart, ok1, ok2, ok3, ok4, ok5};
 ghost use Rattle.reading.specs.Marks.{MarksStarts, MarksTargets};
-ghost use Rattle.reading.specs.Places.{Here};
+ghost use Rattle.reading.specs.Offsets.{Here};
 ghost use Rattle.passes.specs.Passes.{testOf};
 use branch::jr_target;
 use field::signed_field;

@@ -1,4 +1,7 @@
 // The constants of the GPU: local RAM and the built chip registers, as paper 01 gives them.
+ghost use mathlib.Core.Path.{_≡_};
+ghost use Prim.Native.Nat.{_+_, _%_, _^_, _<_};
+ghost use Rattle.processor.specs.Processor.{gpu};
 
 pub struct Gpu {}
 
@@ -14,4 +17,11 @@ impl Gpu {
     pub const CONTROL: u32 = 0xF02114;
 
     pub const DIVIDE: u32 = 0xF0211C;
+
+    // The address less the base, modulo 2^32: below the size for an address in RAM, and for no other.
+    pub fn offset(a: u32) -> u32
+        ensures { λ r. ⌜ ((r + gpu .base) % 2 ^ 32 ≡ a) × (r < 2 ^ 32) ⌝ }
+    {
+        std::num::wrapping_sub_u32(a, Self::BASE)
+    }
 }

@@ -8,7 +8,7 @@ use Rattle.processor.specs.Processor.{Processor}
 use Rattle.items.specs.declared.Item.{Item}
 use Rattle.items.specs.Items.{itemOf, shapeOf, bytesOf}
 use Rattle.rules.specs.Reading.{itemAt, after}
-use Rattle.reading.specs.Places.{Here}
+use Rattle.reading.specs.Offsets.{Here}
 
 module _ (P : Processor) where
   pub item-at : (code : List ℕ) (i : ℕ) → itemAt P code (P .base + i) ≡ itemOf P code i

@@ -8,10 +8,10 @@ use native.Mathlib.Omega.{arith}
 use lib.Dec.{eqb}
 use borrow.Author.Tests.{eq-eqb, lt-ltb, le-ltb}
 use Rattle.processor.specs.Processor.{Processor, Sound}
-use Rattle.memory.specs.Memory.{isMapped, isRegister, placeOf}
-use Rattle.memory.specs.declared.Place.{Place}
-use Rattle.memory.specs.declared.Place.the-variants as M
-use Rattle.memory.proofs.Places.{Register, is-flags, is-control, is-divide, is-none, register-at}
+use Rattle.places.specs.Places.{isMapped, isRegister, placeOf}
+use Rattle.places.specs.declared.Place.{Place}
+use Rattle.places.specs.declared.Place.the-variants as M
+use Rattle.places.proofs.Places.{Register, is-flags, is-control, is-divide, is-none, register-at}
 use Rattle.ranges.specs.declared.Range.{Range}
 use Rattle.ranges.specs.Ranges.{isExactly}
 use Rattle.rules.specs.Rules.{Accessible, in-ram, one-register, Reaches}

@@ -28,7 +28,7 @@ use Rattle.items.specs.declared.Item.the-variants.{Unbuilt}
 use Rattle.rules.specs.Reading.{first}
 use Rattle.ranges.specs.Ranges.{unknown}
 use Rattle.rules.specs.Rules.{IsInstruction, Knows, at-first, Rules}
-use Rattle.rules.specs.Safety.{Begins, Loaded, Left, afterSteps, afterRuns, Kept, Safe, Demand3, Tells, GoesOn}
+use Rattle.rules.specs.Safety.{StartState, Loaded, Left, afterSteps, afterRuns, Kept, Safe, Demand3, Tells, GoesOn}
 use Rattle.values.proofs.Booleans.{no-way}
 use Rattle.ranges.proofs.Covers.{wide}
 use Rattle.rules.proofs.Invariant.{by-fall, Inv}
@@ -119,7 +119,7 @@ module _ (P : Processor) (sound : Sound P) (code : List ℕ) (small : length cod
       let a = advance m h in
       following n m h (advanceOf P m .end) refl (a .completes) (a .holds) _ (safe b (n + 1) (advanceOf P m .machine) (a .holds))
 
-  begins : (memory : Memory) (s : State) → IsMemory (P .size) memory → IsState s → take (length code) (memory .ram) ≡ code → 0 < length code → Begins P s → Holds (machineOf s memory)
+  begins : (memory : Memory) (s : State) → IsMemory (P .size) memory → IsState s → take (length code) (memory .ram) ≡ code → 0 < length code → StartState P s → Holds (machineOf s memory)
   begins memory s typed is same some b =
       let t = machine-typed (P .size) s memory is typed in
       record {

@@ -24,7 +24,7 @@ use Rattle.rules.specs.Reading.{itemAt}
 use Rattle.rules.specs.Scan.{scan, firstBad}
 use Rattle.rules.specs.Known.{transferOf}
 use Rattle.rules.specs.Check.{isStart, isTarget, learn, ok1, ok2, ok3, ok4, ok5, ok6, brokenIn, rulesOf, checkOf}
-use Rattle.rules.specs.Safety.{Begins, Loaded, Safe, Demand3, Tells, GoesOn}
+use Rattle.rules.specs.Safety.{StartState, Loaded, Safe, Demand3, Tells, GoesOn}
 use Rattle.values.proofs.Booleans.{and-l, and-r}
 use Rattle.rules.proofs.Demand.{demand3, tells, goes-on}
 
@@ -131,7 +131,7 @@ start-state =
           };
     }
 
-start-begins : Begins gpu start
+start-begins : StartState gpu start
 start-begins = record { runs = refl; at-first = refl; none-pending = refl }
 
 -- no assumption is left but the budget's limit

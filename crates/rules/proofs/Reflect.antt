@@ -9,7 +9,7 @@ use borrow.Author.Tests.{eqb-true, eq-eqb, ltb-true, lt-ltb, leb-true, le-leb, n
 use Rattle.field.specs.Fields.{signedFieldOf}
 use Rattle.branch.specs.Jump.{jrTargetOf}
 use Rattle.processor.specs.Processor.{Processor}
-use Rattle.memory.specs.Memory.{isRegister}
+use Rattle.places.specs.Places.{isRegister}
 use Rattle.ranges.specs.declared.Range.{Range}
 use Rattle.items.specs.declared.Item.{Item}
 use Rattle.items.specs.declared.Item.the-variants.{Unbuilt, Built}

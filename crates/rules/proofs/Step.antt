@@ -19,11 +19,12 @@ use Rattle.effect.specs.Effects.{effectIn}
 use Rattle.effect.specs.declared.Effect.{Effect}
 use Rattle.effect.specs.declared.Effect.the-variants as E
 use Rattle.processor.specs.Processor.{Processor, Sound}
-use Rattle.memory.specs.Memory.{wordAt, placeOf, immediateOf}
+use Rattle.memory.specs.Memory.{wordAt, immediateOf}
+use Rattle.places.specs.Places.{placeOf}
 use Rattle.memory.specs.declared.Received.{Received}
 use Rattle.memory.specs.declared.Received.the-variants as I
-use Rattle.memory.specs.declared.Place.{Place}
-use Rattle.memory.specs.declared.Place.the-variants as M
+use Rattle.places.specs.declared.Place.{Place}
+use Rattle.places.specs.declared.Place.the-variants as M
 use Rattle.answers.specs.declared.Fault.{Fault}
 use Rattle.answers.specs.declared.End.the-variants.{Completed, Stopped}
 use Rattle.core.specs.declared.Core.{Core}

@@ -7,7 +7,7 @@ use lib.ListN.{length, take}
 use Rattle.field.specs.Fields.{signedFieldOf}
 use Rattle.branch.specs.Jump.{jrTargetOf}
 use Rattle.processor.specs.Processor.{Processor}
-use Rattle.memory.specs.Memory.{isRegister}
+use Rattle.places.specs.Places.{isRegister}
 use Rattle.ranges.specs.declared.Range.{Range}
 use Rattle.verdicts.specs.declared.Verdict.{Verdict}
 use Rattle.verdicts.specs.declared.Verdict.the-variants.{Admitted, RamLength, CodeLength, Broken}

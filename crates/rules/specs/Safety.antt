@@ -19,7 +19,7 @@ use Rattle.rules.specs.Check.{checkOf}
 use Rattle.rules.specs.Rules.{IsStart, Rules, FirstBroken}
 
 -- "any state that is running, with the counter at the first instruction and no jump pending"
-pub record Begins (P : Processor) (s : State) : Type 0 where
+pub record StartState (P : Processor) (s : State) : Type 0 where
   pub runs : s .activity ≡ A.Running
   pub at-first : s .pc ≡ P .base
   pub none-pending : s .pending ≡ None
@@ -29,7 +29,7 @@ pub record Loaded (P : Processor) (admitted : List ℕ) (C : ℕ) (memory : Memo
   pub is-memory : IsMemory (P .size) memory
   pub same-code : take C (memory .ram) ≡ take C admitted
   pub is-state : IsState s
-  pub begins : Begins P s
+  pub begins : StartState P s
 
 -- "Each step gets the RAM and state that the one before left, and nobody else writes them meanwhile."
 pub record Left : Type 0 where

@@ -173,8 +173,8 @@ callRows =
     ∷ []
 
 -- Any other number.
-abbrev pub unknown : String
-unknown =
+abbrev pub unknownText : String
+unknownText =
     "This number is not known here.\n"
     ++ "What happened: the line answer has a number that such a text never has.\n"
     ++ "Where to look: at the first line of the text.\n"
@@ -204,7 +204,7 @@ textIn [] n otherwise = otherwise
 textIn (r ∷ rs) n otherwise = cond (eqb n (r .number)) (r .text) (textIn rs n otherwise)
 
 unfoldable pub callText : ℕ → String
-callText n = textIn callRows n unknown
+callText n = textIn callRows n unknownText
 
 unfoldable pub runText : ℕ → String
 runText n = textIn runRows n (callText n)

@@ -3,8 +3,8 @@ use Prim.Native.Nat.{ℕ, _%_}
 use mathlib.Core.Bool.{Bool, cond}
 use lib.Dec.{eqb}
 use Rattle.memory.specs.Memory.{putLong}
-use Rattle.memory.specs.declared.Place.{Place}
-use Rattle.memory.specs.declared.Place.the-variants as M
+use Rattle.places.specs.declared.Place.{Place}
+use Rattle.places.specs.declared.Place.the-variants as M
 use Rattle.answers.specs.declared.End.the-variants.{Completed, Stopped}
 use Rattle.core.specs.declared.Core.{Core}
 use Rattle.core.specs.declared.Pending.the-variants.{None}

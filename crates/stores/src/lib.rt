@@ -2,20 +2,20 @@
 ghost use mathlib.Core.Path.{_≡_};
 ghost use lib.ListN.{length};
 ghost use Rattle.processor.specs.Processor.{gpu};
-ghost use Rattle.memory.specs.Memory.{placeOf};
+ghost use Rattle.places.specs.Places.{placeOf};
 ghost use Rattle.core.specs.Machine.{machineWith, lent};
 ghost use Rattle.outcome.specs.Outcome.{outcomeWith};
 ghost use Rattle.stores.specs.Stores.{controlOf, storeOf};
 use answers::End;
 use core::Core;
 use core::Pending;
-use memory::Place;
-use memory::locate;
 use memory::put_long;
 use outcome::Moved;
 use outcome::done;
 use outcome::ended;
 use outcome::fault;
+use places::Place;
+use places::locate;
 use registers::settle;
 
 // A write of v to the control register.

@@ -10,7 +10,7 @@ ghost use Rattle.transfer.specs.InPlace.{three, usesIn, usesOf, reachOf,
 use class::Address;
 use class::Class;
 use items::Shape;
-use memory::is_register;
+use places::is_register;
 use processor::Gpu;
 use ranges::Range;
 use ranges::and;

@@ -23,15 +23,15 @@ ruleOf n =
 
 -- 21 to 26 are "loading rule 1 to 6 broken", 31 is "RAM length is not 4,096", and 33 is
 -- "code length not 4 to 4,096, or not a multiple of 4".
-abbrev pub numberOf : Verdict → ℕ
-numberOf Admitted = 0
-numberOf RamLength = 31
-numberOf CodeLength = 33
-numberOf (Broken r a) = 20 + ruleNumber r
+abbrev pub verdictNumber : Verdict → ℕ
+verdictNumber Admitted = 0
+verdictNumber RamLength = 31
+verdictNumber CodeLength = 33
+verdictNumber (Broken r a) = 20 + ruleNumber r
 
 -- "with the instruction's address"; "0, 31 and 33 tell address 0."
-abbrev pub addressOf : Verdict → ℕ
-addressOf Admitted = 0
-addressOf RamLength = 0
-addressOf CodeLength = 0
-addressOf (Broken r a) = a
+abbrev pub verdictAddress : Verdict → ℕ
+verdictAddress Admitted = 0
+verdictAddress RamLength = 0
+verdictAddress CodeLength = 0
+verdictAddress (Broken r a) = a

@@ -1,7 +1,7 @@
 // What a pass over the code finds, and what the loading check answers: the numbers of paper 01 are those of the definition.
 ghost use mathlib.Core.Path.{_≡_};
 ghost use Prim.Native.Nat.{_<_};
-ghost use Rattle.verdicts.specs.Verdicts.{ruleNumber, numberOf, addressOf};
+ghost use Rattle.verdicts.specs.Verdicts.{ruleNumber, verdictNumber, verdictAddress};
 
 // The loading rules, in the order of their numbers.
 pub enum Rule {
@@ -46,7 +46,7 @@ impl Rule {
 impl Verdict {
     // Paper 01's number.
     pub fn number(self) -> u32
-        ensures { λ r. ⌜ r ≡ numberOf self ⌝ }
+        ensures { λ r. ⌜ r ≡ verdictNumber self ⌝ }
     {
         match self {
             Verdict::Admitted => 0,
@@ -58,7 +58,7 @@ impl Verdict {
 
     // The address told.
     pub fn address(self) -> u32
-        ensures { λ r. ⌜ r ≡ addressOf self ⌝ }
+        ensures { λ r. ⌜ r ≡ verdictAddress self ⌝ }
     {
         match self {
             Verdict::Admitted => 0,

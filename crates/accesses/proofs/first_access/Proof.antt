@@ -18,7 +18,7 @@ use Rattle.rules.specs.Check.{learn, ok6}
 use Rattle.transfer.specs.InPlace.{forgetsOf, rangeAfter}
 use Rattle.ranges.specs.Ordered.{Ordered, AllOrdered}
 use Rattle.ranges.proofs.Orders.{set-ordered, set-nothing}
-use Rattle.reading.specs.Places.{Here}
+use Rattle.reading.specs.Offsets.{Here}
 use Rattle.items.specs.Items.{longIn}
 use Rattle.reading.proofs.Pass.{PassAt, pass-first, pass-on, pass-hit, pass-past}
 use Rattle.accesses.proofs.Turn.{range-read, ok6-here, learnt-here}

@@ -5,7 +5,7 @@ use native.Mathlib.Omega.{arith}
 use mathlib.Core.Path.{_∙_, sym}
 use Rattle.processor.specs.Processor.{gpu}
 use Rattle.processor.proofs.Instances.{gpu-sound}
-use Rattle.memory.proofs.Places.{ram-holds}
+use Rattle.places.proofs.Places.{ram-holds}
 use Rattle.stores.proofs.store.Statement.{statement}
 use Rattle.stores.proofs.store.Tie as tie
 

@@ -3,13 +3,13 @@
 use borrow.Author.Needs.{needs}
 use native.Mathlib.Omega.{arith}
 use Rattle.text.specs.Bytes.{bytes}
-use Rattle.lines.specs.Lines.{checkText}
+use Rattle.lines.specs.Lines.{checkLines}
 use Rattle.text.proofs.Writing.{then, whole}
 use Rattle.lines.proofs.check.write.Statement.{statement}
 use Rattle.lines.proofs.check.write.Tie as tie
 
 returns : tie.Need-returns
-unfolding checkText bytes
+unfolding checkLines bytes
 returns c =
     let at-answer = c .before .before .before in
     whole (then (at-answer .decimal-line .ensures .0) (c .hex-line .ensures .0)) (omega (arith, at-answer))

@@ -1,8 +1,8 @@
 -- `register_at` meets its contract: the three keys are the built registers.
 -- Assumes nothing.
 use borrow.Author.Tests.{ne-eqb}
-use Rattle.memory.proofs.register_at.Statement.{statement}
-use Rattle.memory.proofs.register_at.Tie as tie
+use Rattle.places.proofs.register_at.Statement.{statement}
+use Rattle.places.proofs.register_at.Tie as tie
 
 returns : tie.Need-returns
 returns c = rw (c .match .keys1)

@@ -1,4 +1,4 @@
--- Places in the code, told by their offset from its start.
+-- What stands in the code, told by its offset from the start.
 use Prim.Native.Nat.{ℕ, _≤_, _<_}
 use mathlib.Core.Path.{_≡_}
 use mathlib.Core.List.{List}

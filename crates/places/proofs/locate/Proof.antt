@@ -6,9 +6,9 @@ use mathlib.Core.Path.{_∙_, sym}
 use borrow.Author.Tests.{ne-eqb}
 use Rattle.processor.specs.Processor.{gpu}
 use Rattle.processor.proofs.Instances.{gpu-sound}
-use Rattle.memory.proofs.Offsets.{ram-place, register-place}
-use Rattle.memory.proofs.locate.Statement.{statement}
-use Rattle.memory.proofs.locate.Tie as tie
+use Rattle.places.proofs.Offsets.{ram-place, register-place}
+use Rattle.places.proofs.locate.Statement.{statement}
+use Rattle.places.proofs.locate.Tie as tie
 
 returns : tie.Need-returns
 returns c = rw (ne-eqb _ _ (c .if1 .taken))

@@ -8,10 +8,10 @@ use native.Mathlib.Omega.{arith}
 use borrow.Author.Tests.{eqb-true, ltb-true, ltb-false}
 use lib.Dec.{eqb, ltb}
 use Rattle.processor.specs.Processor.{Processor, Sound}
-use Rattle.memory.specs.Memory.{placeOf, registerOf}
+use Rattle.places.specs.Places.{placeOf, registerOf}
 use Rattle.answers.specs.declared.Fault.the-variants.{Misaligned, Unmapped}
-use Rattle.memory.specs.declared.Place.{Place}
-use Rattle.memory.specs.declared.Place.the-variants.{Ram, Flags, Control, Divide, Refused}
+use Rattle.places.specs.declared.Place.{Place}
+use Rattle.places.specs.declared.Place.the-variants.{Ram, Flags, Control, Divide, Refused}
 
 -- what is built at an address that is not in RAM
 pub data Register (P : Processor) (a : ℕ) : Place → Type 0 where

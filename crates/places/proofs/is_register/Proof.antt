@@ -2,9 +2,9 @@
 -- Assumes nothing.
 use borrow.Author.Needs.{needs}
 use mathlib.Core.Path.{_∙_, ap}
-use Rattle.memory.specs.Memory.{isMapped}
-use Rattle.memory.proofs.is_register.Statement.{statement}
-use Rattle.memory.proofs.is_register.Tie as tie
+use Rattle.places.specs.Places.{isMapped}
+use Rattle.places.proofs.is_register.Statement.{statement}
+use Rattle.places.proofs.is_register.Tie as tie
 
 pub is-register-spec : {M : Type 1} → statement M
 is-register-spec =
