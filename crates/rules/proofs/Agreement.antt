@@ -27,42 +27,45 @@ use Rattle.processor.specs.Processor.{Processor, Sound}
 use Rattle.items.specs.declared.Item.the-variants.{Built}
 use Rattle.items.specs.Items.{itemIn}
 
--- no register of the active bank is written, and neither RAM nor the counter is touched
-abbrev pub Silent : Effect → Type 0
-Silent (E.Refused f) = ⊥
-Silent E.Nothing = Unit {0}
-Silent (E.Write d r) = ⊥
-Silent (E.Keep d n) = ⊥
-Silent (E.Flags f) = Unit {0}
-Silent (E.Divide d q) = ⊥
-Silent (E.Product r) = Unit {0}
-Silent (E.Accumulate n) = Unit {0}
-Silent (E.ToOther d n) = Unit {0}
-Silent (E.FromOther s d) = ⊥
-Silent (E.Immediate d) = ⊥
-Silent (E.Counter d) = ⊥
-Silent (E.Jump c t) = ⊥
-Silent (E.Load d address) = ⊥
-Silent (E.Store address n) = ⊥
+-- what an effect writes to the active bank, where it touches neither RAM nor the counter: nothing, a value in a register, or in a
+-- register what the other bank has
+pub data BankWrite : Type 0 where
+  nothing : BankWrite
+  value : ℕ → ℕ → BankWrite
+  other : ℕ → BankWrite
+  -- it touches RAM or the counter, or is refused
+  beyond : BankWrite
 
--- register r of the active bank gets a value of which Q holds, and nothing else of it is written; of what comes from the other bank
--- nothing is known
-abbrev pub Gives : ℕ → (ℕ → Type 0) → Effect → Type 0
-Gives r Q (E.Refused f) = ⊥
-Gives r Q E.Nothing = ⊥
-Gives r Q (E.Write d x) = (d % 32 ≡ r) × Q (x .value)
-Gives r Q (E.Keep d n) = (d % 32 ≡ r) × Q n
-Gives r Q (E.Flags f) = ⊥
-Gives r Q (E.Divide d q) = (d % 32 ≡ r) × Q (q .quotient)
-Gives r Q (E.Product x) = ⊥
-Gives r Q (E.Accumulate n) = ⊥
-Gives r Q (E.ToOther d n) = ⊥
-Gives r Q (E.FromOther s d) = (d % 32 ≡ r) × ((n : ℕ) → Q n)
-Gives r Q (E.Immediate d) = ⊥
-Gives r Q (E.Counter d) = ⊥
-Gives r Q (E.Jump c t) = ⊥
-Gives r Q (E.Load d address) = ⊥
-Gives r Q (E.Store address n) = ⊥
+abbrev pub bankWrite : Effect → BankWrite
+bankWrite (E.Refused f) = beyond
+bankWrite E.Nothing = nothing
+bankWrite (E.Write d r) = value (d % 32) (r .value)
+bankWrite (E.Keep d n) = value (d % 32) n
+bankWrite (E.Flags f) = nothing
+bankWrite (E.Divide d q) = value (d % 32) (q .quotient)
+bankWrite (E.Product r) = nothing
+bankWrite (E.Accumulate n) = nothing
+bankWrite (E.ToOther d n) = nothing
+bankWrite (E.FromOther s d) = other (d % 32)
+bankWrite (E.Immediate d) = beyond
+bankWrite (E.Counter d) = beyond
+bankWrite (E.Jump c t) = beyond
+bankWrite (E.Load d address) = beyond
+bankWrite (E.Store address n) = beyond
+
+-- nothing is written
+abbrev pub Silent : BankWrite → Type 0
+Silent nothing = Unit {0}
+Silent (value d n) = ⊥
+Silent (other d) = ⊥
+Silent beyond = ⊥
+
+-- register r gets a value of which Q holds; of what comes from the other bank nothing is known
+abbrev pub Gives : ℕ → (ℕ → Type 0) → BankWrite → Type 0
+Gives r Q nothing = ⊥
+Gives r Q (value d n) = (d ≡ r) × Q n
+Gives r Q (other d) = (d ≡ r) × ((n : ℕ) → Q n)
+Gives r Q beyond = ⊥
 
 -- anything, or one value
 abbrev pub Any : ℕ → Type 0
@@ -79,16 +82,16 @@ module _ (a : List ℕ) (pc : ℕ) where
   reached (Indexed r s) = (getD a r 0 + getD a s 0) % 2 ^ 32
 
   abbrev pub Agrees : Class → Effect → Type 0
-  Agrees C.Quiet e = Silent e
-  Agrees (C.Write d) e = Gives d Any e
-  Agrees (C.Moveq n d) e = Gives d (One n) e
+  Agrees C.Quiet e = Silent (bankWrite e)
+  Agrees (C.Write d) e = Gives d Any (bankWrite e)
+  Agrees (C.Moveq n d) e = Gives d (One n) (bankWrite e)
   Agrees (C.Movei d) e = (d % 32 ≡ d) × (e ≡ E.Immediate d)
-  Agrees (C.Move s d) e = Gives d (One (getD a s 0)) e
-  Agrees (C.And s d) e = Gives d (One (bitAnd (getD a d 0) (getD a s 0))) e
-  Agrees (C.Add s d) e = Gives d (One ((getD a d 0 + getD a s 0) % 2 ^ 32)) e
-  Agrees (C.AddQuick n d) e = Gives d (One ((getD a d 0 + n) % 2 ^ 32)) e
-  Agrees (C.SubQuick n d) e = (n ≤ 32) × Gives d (One ((getD a d 0 + 2 ^ 32 - n) % 2 ^ 32)) e
-  Agrees (C.Shlq n d) e = Gives d (One (leftOf (getD a d 0) n .value)) e
+  Agrees (C.Move s d) e = Gives d (One (getD a s 0)) (bankWrite e)
+  Agrees (C.And s d) e = Gives d (One (bitAnd (getD a d 0) (getD a s 0))) (bankWrite e)
+  Agrees (C.Add s d) e = Gives d (One ((getD a d 0 + getD a s 0) % 2 ^ 32)) (bankWrite e)
+  Agrees (C.AddQuick n d) e = Gives d (One ((getD a d 0 + n) % 2 ^ 32)) (bankWrite e)
+  Agrees (C.SubQuick n d) e = (n ≤ 32) × Gives d (One ((getD a d 0 + 2 ^ 32 - n) % 2 ^ 32)) (bankWrite e)
+  Agrees (C.Shlq n d) e = Gives d (One (leftOf (getD a d 0) n .value)) (bankWrite e)
   Agrees (C.Load m d) e = (d % 32 ≡ d) × (e ≡ E.Load d (reached m))
   Agrees (C.Store m d) e = e ≡ E.Store (reached m) (getD a d 0)
   Agrees (C.MovePc d) e = (d % 32 ≡ d) × (e ≡ E.Counter d)

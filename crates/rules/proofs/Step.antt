@@ -52,7 +52,7 @@ use Rattle.rules.specs.Rules.{IsTarget, by-jr, by-jump, Rules}
 use Rattle.branch.proofs.Conditions.{always-taken}
 use Rattle.values.proofs.Booleans.{no-way}
 use Rattle.ranges.proofs.Covers.{In, Fits, fits-at, fits-set, fits-write, in-exactly, in-sum, in-and, in-less, in-shifted}
-use Rattle.rules.proofs.Agreement.{Silent, Gives, Any, One, reached, Agrees, agrees}
+use Rattle.rules.proofs.Agreement.{BankWrite, nothing, value, other, beyond, bankWrite, Silent, Gives, Any, One, reached, Agrees, agrees}
 use Rattle.rules.proofs.Invariant.{HoldsValue, Came, by-target, by-fall, Inv, fall, not-last, arrive}
 use Rattle.rules.proofs.Scan.{bytes-least}
 use Rattle.rules.proofs.Fetching.{reads-even, word-same, fetched, fetched-long, behind}
@@ -93,53 +93,58 @@ module _ (P : Processor) (sound : Sound P) (code : List ℕ) (small : length cod
       plainly k a o ep eq f wide =
           moves (ap bytesOf plain) (ap always plain) k a o (m .memory) (inv .same-code) ep eq (subst (λ s. HoldsValue s a) (sym plain) tt) f wide
 
-      silent : transfer P c n (inv .known) ≡ inv .known → (e : Effect) → Silent e → Steps (applyOf P m e)
+      -- what is to be known of the active bank after an effect
+      abbrev After : BankWrite → Type 0
+      After nothing = Known (m .active)
+      After (value d v) = Known (set (m .active) d v)
+      After (other d) = (v : ℕ) → Known (set (m .active) d v)
+      After beyond = ⊥
+
+      applied : (e : Effect) → After (bankWrite e) → Steps (applyOf P m e)
       unfolding applyOf
-      silent t (E.Refused f) h = absurd h
-      silent t E.Nothing h = (tt, plainly _ _ _ refl refl (unchanged t))
-      silent t (E.Write d r) h = absurd h
-      silent t (E.Keep d v) h = absurd h
-      silent t (E.Flags f) h = (tt, plainly _ _ _ refl refl (unchanged t))
-      silent t (E.Divide d q) h = absurd h
-      silent t (E.Product r) h = (tt, plainly _ _ _ refl refl (unchanged t))
-      silent t (E.Accumulate v) h = (tt, plainly _ _ _ refl refl (unchanged t))
-      silent t (E.ToOther d v) h = (tt, plainly _ _ _ refl refl (unchanged t))
-      silent t (E.FromOther s d) h = absurd h
-      silent t (E.Immediate d) h = absurd h
-      silent t (E.Counter d) h = absurd h
-      silent t (E.Jump q t′) h = absurd h
-      silent t (E.Load d address) h = absurd h
-      silent t (E.Store address v) h = absurd h
+      applied (E.Refused f) h = absurd h
+      applied E.Nothing h = (tt, plainly _ _ _ refl refl h)
+      applied (E.Write d r) h = (tt, plainly _ _ _ refl refl h)
+      applied (E.Keep d v) h = (tt, plainly _ _ _ refl refl h)
+      applied (E.Flags f) h = (tt, plainly _ _ _ refl refl h)
+      applied (E.Divide d q) h = (tt, plainly _ _ _ refl refl h)
+      applied (E.Product r) h = (tt, plainly _ _ _ refl refl h)
+      applied (E.Accumulate v) h = (tt, plainly _ _ _ refl refl h)
+      applied (E.ToOther d v) h = (tt, plainly _ _ _ refl refl h)
+      applied (E.FromOther s d) h = (tt, plainly _ _ _ refl refl (h _))
+      applied (E.Immediate d) h = absurd h
+      applied (E.Counter d) h = absurd h
+      applied (E.Jump q t) h = absurd h
+      applied (E.Load d address) h = absurd h
+      applied (E.Store address v) h = absurd h
+
+      silent : transfer P c n (inv .known) ≡ inv .known → (e : Effect) → Silent (bankWrite e) → Steps (applyOf P m e)
+      silent t e h = applied e (go (bankWrite e) h)
+        where
+          go : (w : BankWrite) → Silent w → After w
+          go nothing s = unchanged t
+          go (value d v) s = absurd s
+          go (other d) s = absurd s
+          go beyond s = absurd s
 
       -- register d gets a value of which Q holds
-      module _ (d : ℕ) (Q : ℕ → Type 0) (known : (v : ℕ) → Q v → Known (set (m .active) d v)) where
-        there : (r v : ℕ) → r ≡ d → Q v → Known (set (m .active) r v)
-        there r v e q = subst (λ i. Known (set (m .active) i v)) (sym e) (known v q)
+      gives : (d : ℕ) (Q : ℕ → Type 0) → ((v : ℕ) → Q v → Known (set (m .active) d v)) → (e : Effect) → Gives d Q (bankWrite e) → Steps (applyOf P m e)
+      gives d Q known e h = applied e (go (bankWrite e) h)
+        where
+          there : (r v : ℕ) → r ≡ d → Q v → Known (set (m .active) r v)
+          there r v e q = subst (λ i. Known (set (m .active) i v)) (sym e) (known v q)
 
-        gives : (e : Effect) → Gives d Q e → Steps (applyOf P m e)
-        unfolding applyOf
-        gives (E.Refused f) h = absurd h
-        gives E.Nothing h = absurd h
-        gives (E.Write r y) h = (tt, plainly _ _ _ refl refl (there (r % 32) (y .value) (h .0) (h .1)))
-        gives (E.Keep r v) h = (tt, plainly _ _ _ refl refl (there (r % 32) v (h .0) (h .1)))
-        gives (E.Flags f) h = absurd h
-        gives (E.Divide r q) h = (tt, plainly _ _ _ refl refl (there (r % 32) (q .quotient) (h .0) (h .1)))
-        gives (E.Product r) h = absurd h
-        gives (E.Accumulate v) h = absurd h
-        gives (E.ToOther r v) h = absurd h
-        gives (E.FromOther s r) h =
-            let v = getD (m .other) (s % 32) 0 in (tt, plainly _ _ _ refl refl (there (r % 32) v (h .0) (h .1 v)))
-        gives (E.Immediate r) h = absurd h
-        gives (E.Counter r) h = absurd h
-        gives (E.Jump q t′) h = absurd h
-        gives (E.Load r address) h = absurd h
-        gives (E.Store address v) h = absurd h
+          go : (w : BankWrite) → Gives d Q w → After w
+          go nothing g = absurd g
+          go (value r v) g = there r v (g .0) (g .1)
+          go (other r) g = λ v. there r v (g .0) (g .1 v)
+          go beyond g = absurd g
 
       -- any value, or one that lies in a range
-      any : (d : ℕ) → transfer P c n (inv .known) ≡ set (inv .known) d full → (e : Effect) → Gives d Any e → Steps (applyOf P m e)
+      any : (d : ℕ) → transfer P c n (inv .known) ≡ set (inv .known) d full → (e : Effect) → Gives d Any (bankWrite e) → Steps (applyOf P m e)
       any d t = gives d Any (λ v q. unknowing d v t)
 
-      one : (d v : ℕ) (x : Range) → In x v → transfer P c n (inv .known) ≡ set (inv .known) d x → (e : Effect) → Gives d (One v) e → Steps (applyOf P m e)
+      one : (d v : ℕ) (x : Range) → In x v → transfer P c n (inv .known) ≡ set (inv .known) d x → (e : Effect) → Gives d (One v) (bankWrite e) → Steps (applyOf P m e)
       one d v x i t = gives d (One v) (λ u q. knowing d u x (subst (In x) (sym q) i) t)
 
   -- an address lies in the range that is known of it
