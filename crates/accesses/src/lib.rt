@@ -5,7 +5,6 @@ ghost use lib.ListN.{length};
 ghost use Rattle.processor.specs.Processor.{gpu};
 ghost use Rattle.rules.specs.Check.{firstAccess};
 ghost use Rattle.reading.specs.Marks.{MarksTargets};
-ghost use Rattle.items.specs.Items.{classIn, longIn};
 use items::class_in;
 use items::item_at;
 use items::long_in;

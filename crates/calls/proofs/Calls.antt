@@ -84,9 +84,9 @@ module _ {memory : Memory} {block : List ℕ} {s : State} (l : Linked memory blo
       (ap (λ c. c .memory) e, subst (λ c. Linked (runOf gpu memory s budget .memory) (c .block) (runOf gpu memory s budget .ran .state)) (sym e) linked-after))
 
   -- what a safe run shows
-  shown : {code : List ℕ} → Safe gpu code memory s budget → budget ≤ budgetLimit → SafeCall code (callOf memory block budget)
+  call-safe : {code : List ℕ} → Safe gpu code memory s budget → budget ≤ budgetLimit → SafeCall code (callOf memory block budget)
   unfolding stateAt longs
-  shown {code} safe allowed =
+  call-safe {code} safe allowed =
       let kept = subst (Kept gpu code) (safe .ends) (safe .keeps (runOf gpu memory s budget .ran .steps) (omega arith)) in
       let pc : blockLong (putState block (runOf gpu memory s budget .ran .state)) pcIndex ≡ runOf gpu memory s budget .ran .state .pc = ap (λ t. t .pc) (linked-after .same) in
       subst (SafeCall code) (sym (called-as allowed))
@@ -121,5 +121,5 @@ display =
           let a = along budgets (called 0 memory block) (linked h) in
           let c = afterCalls budgets (called 0 memory block) in
           let safe = gpu-goes-on .goes-on admitted C (admits _ e) memory (stateAt block) (loaded h) budgets budget allowed in
-          subst (λ r. SafeCall (take C admitted) (callOf r (c .block) budget)) (sym (a .0)) (shown (a .1) budget safe allowed);
+          subst (λ r. SafeCall (take C admitted) (callOf r (c .block) budget)) (sym (a .0)) (call-safe (a .1) budget safe allowed);
     }

@@ -1,4 +1,4 @@
--- That the claim about a display is not vacuous: 01's card, handed over with the block of a machine that begins, is shown by every call,
+-- That the claim about a display is not vacuous: 01's card, handed over with the block of a machine that begins, is call-safe by every call,
 -- and no assumption is left but the budget's limit.
 -- Assumes nothing.
 use Prim.Native.Nat.{ℕ, _*_, _≤_}
@@ -32,5 +32,5 @@ handed-over =
       begins = record { runs = refl; at-first = refl; none-pending = refl };
     }
 
-pub card-shown : (budgets : List ℕ) (budget : ℕ) → budget ≤ budgetLimit → SafeCall (take 16 card) (afterCalls (budget ∷ []) (afterCalls budgets (called 0 (lent card) start)))
-card-shown = display .shows card 16 (ap checkReply card-admitted) (lent card) start handed-over
+pub card-call-safe : (budgets : List ℕ) (budget : ℕ) → budget ≤ budgetLimit → SafeCall (take 16 card) (afterCalls (budget ∷ []) (afterCalls budgets (called 0 (lent card) start)))
+card-call-safe = display .shows card 16 (ap checkReply card-admitted) (lent card) start handed-over

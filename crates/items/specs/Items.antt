@@ -15,7 +15,7 @@ use Rattle.items.specs.declared.Shape.the-variants.{Other, Movei, MovePc
 use Rattle.processor.specs.Processor.{Processor}
 use Rattle.memory.specs.Memory.{wordAt}
 
--- What stands at an address.
+-- What a decoded word is, with the long behind it; and what stands at an offset.
 abbrev pub itemIn : Decoded → ℕ → Item
 itemIn (D.Built i) long = Built (classOf i) long
 itemIn (D.Refused f) long = Unbuilt
@@ -24,7 +24,7 @@ itemIn (D.Refused f) long = Unbuilt
 unfoldable pub itemOf : Processor → List ℕ → ℕ → Item
 itemOf P code i = itemIn (P .decode (wordAt code i)) (wordAt code (i + 4) * 2 ^ 16 + wordAt code (i + 2))
 
--- What rules 2 to 6 ask of it.
+-- What rules 2 to 6 ask of it: its shape, and its length in bytes.
 abbrev pub shapeIn : Class → ℕ → Shape
 shapeIn C.Quiet v = Other
 shapeIn (C.Write d) v = Other
@@ -61,14 +61,14 @@ isBuilt Unbuilt = false
 isBuilt (Built c v) = true
 
 -- a JR or JUMP
-abbrev pub jumps : Shape → Bool
-jumps Other = false
-jumps (Movei d v) = false
-jumps MovePc = false
-jumps (Jr n c) = true
-jumps (Jump r c) = true
-jumps (Load m) = false
-jumps (Store m) = false
+abbrev pub isJump : Shape → Bool
+isJump Other = false
+isJump (Movei d v) = false
+isJump MovePc = false
+isJump (Jr n c) = true
+isJump (Jump r c) = true
+isJump (Load m) = false
+isJump (Store m) = false
 
 -- rule 5's "JR or JUMP with condition 0"
 abbrev pub always : Shape → Bool
@@ -80,7 +80,7 @@ always (Jump r c) = eqb c 0
 always (Load m) = false
 always (Store m) = false
 
--- What rule 6 asks of it: its class, where what is not built changes nothing, and its long.
+-- What tells how it changes the ranges of rule 6: its class, where what is not built changes nothing, and its long.
 abbrev pub classIn : Item → Class
 classIn Unbuilt = C.Quiet
 classIn (Built c v) = c

@@ -5,7 +5,7 @@ ghost use Prim.Native.Nat.{_≤_, _<_};
 ghost use lib.ListN.{getD};
 ghost use Rattle.memory.specs.Memory.{wordAt};
 ghost use Rattle.processor.specs.Processor.{gpu};
-ghost use Rattle.items.specs.Items.{itemOf, shapeIn, shapeOf, bytesOf, isBuilt, jumps, always, classIn, longIn};
+ghost use Rattle.items.specs.Items.{itemOf, shapeIn, shapeOf, bytesOf, isBuilt, isJump, always, classIn, longIn};
 use class::Address;
 use class::Class;
 use class::class_of;
@@ -116,9 +116,9 @@ pub fn is_built(t: Item) -> bool
     }
 }
 
-// What rules 4 and 5 ask: a JR or JUMP, and one with condition 0.
+// What rule 4 asks: a JR or JUMP.
 pub fn is_jump(s: Shape) -> bool
-    ensures { λ r. ⌜ r ≡ jumps s ⌝ }
+    ensures { λ r. ⌜ r ≡ isJump s ⌝ }
 {
     match s {
         Shape::Other => false,
@@ -131,6 +131,7 @@ pub fn is_jump(s: Shape) -> bool
     }
 }
 
+// What rule 5 asks: one with condition 0.
 pub fn always_jumps(s: Shape) -> bool
     ensures { λ r. ⌜ r ≡ always s ⌝ }
 {
@@ -145,7 +146,7 @@ pub fn always_jumps(s: Shape) -> bool
     }
 }
 
-// What rule 6 asks of an item: its class, and its long.
+// What tells how an item changes the ranges of rule 6: its class, and its long.
 pub fn class_in(t: Item) -> Class
     ensures { λ r. ⌜ r ≡ classIn t ⌝ }
 {

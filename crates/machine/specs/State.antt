@@ -1,8 +1,7 @@
 -- The state by value: its flag setters, and the machine that the definitions of an instruction are over.
-use Prim.Native.Nat.{ℕ, _%_}
+use Prim.Native.Nat.{ℕ}
 use mathlib.Core.Bool.{Bool, false, cond}
 use mathlib.Core.List.{List}
-use lib.Dec.{eqb}
 use lib.ListN.{replicate}
 use Rattle.values.specs.Results.{bitOf, isOne}
 use Rattle.processor.specs.Processor.{Processor}

@@ -11,7 +11,7 @@ use lib.ListN.{length}
 use Rattle.processor.specs.Processor.{Processor}
 use Rattle.items.specs.declared.Item.{Item}
 use Rattle.items.specs.declared.Shape.{Shape}
-use Rattle.items.specs.Items.{itemOf, shapeOf, bytesOf, jumps, always, isBuilt}
+use Rattle.items.specs.Items.{itemOf, shapeOf, bytesOf, isJump, always, isBuilt}
 use Rattle.rules.specs.Reading.{breaksSlot}
 use Rattle.rules.specs.Check.{isTarget, ok1, ok2, ok3, ok4, ok5, jrOk, jumpOk}
 use Rattle.values.proofs.Booleans.{by}
@@ -50,7 +50,7 @@ module _ (P : Processor) where
         unfolding ok1
         ok1-here = rw (item-here P h, ← told, ← e, sums, leb-base)
 
-        pub ok4-here : ok4 P code (P .base + i) p ≡ (not (jumps s) || (ltb (i + n) (length code) && not (breaksSlot (shapeOf (itemOf P code (i + n))))))
+        pub ok4-here : ok4 P code (P .base + i) p ≡ (not (isJump s) || (ltb (i + n) (length code) && not (breaksSlot (shapeOf (itemOf P code (i + n))))))
         unfolding ok4
         ok4-here = rw (item-here P h, ← told, ← e, sums, ltb-base, item-at P)
 

@@ -1,6 +1,6 @@
 // Rules 1 to 5 at one instruction: the item t at offset i, after the item p.
 ghost use mathlib.Core.Path.{_≡_};
-ghost use Prim.Native.Nat.{_+_, _<_};
+ghost use Prim.Native.Nat.{_+_};
 ghost use Rattle.processor.specs.Processor.{gpu};
 ghost use Rattle.rules.specs.Reading.{breaksSlot};
 ghost use Rattle.rules.specs.Check.{holds, isStart, ok1, ok2, ok3, ok4, ok5};

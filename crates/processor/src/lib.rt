@@ -1,4 +1,4 @@
-// The constants of the GPU: local RAM and the built chip registers, as paper 01 gives them.
+// The GPU: the constants of local RAM and of the built chip registers, as paper 01 gives them, and the offset of an address in RAM.
 ghost use mathlib.Core.Path.{_≡_};
 ghost use Prim.Native.Nat.{_+_, _%_, _^_, _<_};
 ghost use Rattle.processor.specs.Processor.{gpu};

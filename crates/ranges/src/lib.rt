@@ -1,10 +1,11 @@
 // What is known of a register's content, as a range and whether it is a multiple of 4, and how the operations of instructions change
 // it. Nothing here knows of the code that is checked.
 ghost use mathlib.Core.Path.{_≡_};
-ghost use mathlib.Core.Bool.{_&&_, _||_};
 ghost use Prim.Native.Nat.{min};
 ghost use Rattle.ranges.specs.Ranges.{full, unknown, exactRange, andRange, sumRange, lessRange, shiftedRange, isExactly};
 ghost use Rattle.ranges.specs.Ordered.{Ordered, AllOrdered};
+use values::both;
+use values::either;
 
 // 01's "known": the range of a register's content, both ends included, and whether it is known to be a multiple of 4.
 pub struct Range {
@@ -15,18 +16,6 @@ pub struct Range {
 
 // The highest register content.
 const MOST: u32 = 4294967295;
-
-pub fn both(a: bool, b: bool) -> bool
-    ensures { λ r. ⌜ r ≡ (a && b) ⌝ }
-{
-    if a { b } else { false }
-}
-
-pub fn either(a: bool, b: bool) -> bool
-    ensures { λ r. ⌜ r ≡ (a || b) ⌝ }
-{
-    if a { true } else { b }
-}
 
 fn least(a: u32, b: u32) -> u32
     ensures { λ r. ⌜ r ≡ min a b ⌝ }
@@ -120,7 +109,7 @@ pub fn shifted(n: u32) -> Range
     }
 }
 
-// What is known where nothing was read yet, and at each target.
+// Nothing is known of any register.
 pub fn unknown_all() -> [Range; 32]
     ensures { λ r. ⌜ (r ≡ unknown) × AllOrdered r ⌝ }
 {

@@ -1,4 +1,4 @@
-// Marks of addresses: which are instruction starts, and which are targets. A mark for each offset of the code, and a few
+// Marks of addresses: which are instruction starts, and which are targets. A mark for each address of RAM, and a few
 // behind it, where the last instruction may end.
 ghost use mathlib.Core.Path.{_≡_};
 ghost use Prim.Native.Nat.{_+_, _≤_, _<_};

@@ -59,8 +59,8 @@ abbrev row : ℕ → ℕ → ℕ → ℕ → (ℕ → Shown) → Row
 row word s d mode gives = record { word = word; pc = 0xF0300C; s = s; d = d; mode = mode; gives = gives }
 
 -- The word's effect with these flags and this accumulator before it.
-abbrev outcome : ℕ → ℕ → ℕ → ℕ → Row → Shown
-outcome z n c acc r =
+abbrev shownBy : ℕ → ℕ → ℕ → ℕ → Row → Shown
+shownBy z n c acc r =
     shown (effectIn (decodeOf (r .word)) [] (record { s = r .s; d = r .d; pc = r .pc; z = z; n = n; c = c; acc = acc; mode = r .mode }))
 
 abbrev pub rows : List Row
@@ -104,4 +104,4 @@ rows =
 
 -- "a single table under a single statement": each row holds whatever the flags and the accumulator were.
 unfoldable pub RowsHold : Type 0
-RowsHold = (z n c acc : ℕ) → map (outcome z n c acc) rows ≡ map (λ r. r .gives c) rows
+RowsHold = (z n c acc : ℕ) → map (shownBy z n c acc) rows ≡ map (λ r. r .gives c) rows

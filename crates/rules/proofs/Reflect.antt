@@ -15,7 +15,7 @@ use Rattle.items.specs.declared.Item.{Item}
 use Rattle.items.specs.declared.Item.the-variants.{Unbuilt, Built}
 use Rattle.items.specs.declared.Shape.{Shape}
 use Rattle.items.specs.declared.Shape.the-variants.{Other, Movei, MovePc, Jr, Jump, Load, Store}
-use Rattle.items.specs.Items.{shapeOf, jumps, always, isBuilt}
+use Rattle.items.specs.Items.{shapeOf, isJump, always, isBuilt}
 use Rattle.rules.specs.Reading.{breaksSlot, endOf, itemAt, shapeAt, after, before, Reads, first, next}
 use Rattle.ranges.specs.Ranges.{unknown}
 use Rattle.rules.specs.Known.{addressRange, transferOf}
@@ -241,16 +241,16 @@ module _ (P : Processor) (code : List ℕ) where
       let b : Bool = breaksSlot (shapeAt P code (after P code a)) in
       let l : Bool = ltb (after P code a) (endOf P code) in
       let q : (l && not b) ≡ true =
-      or-cases (not (jumps (shapeAt P code a))) (l && not b) h
-      (λ n. no-way (sym (not-of (jumps (shapeAt P code a)) n) ∙ j))
+      or-cases (not (isJump (shapeAt P code a))) (l && not b) h
+      (λ n. no-way (sym (not-of (isJump (shapeAt P code a)) n) ∙ j))
       (λ n. n) in
       (ltb-true (after P code a) (endOf P code) (and-l l (not b) q), not-of b (and-r l (not b) q))
 
   pub is4 : (a : ℕ) (p : Item) → Rule4 P code a p → ok4 P code a p ≡ true
   unfolding ok4
   is4 a p h =
-      by (jumps (shapeAt P code a))
-      (λ j. or-r (not (jumps (shapeAt P code a)))
+      by (isJump (shapeAt P code a))
+      (λ j. or-r (not (isJump (shapeAt P code a)))
       (and-i (lt-ltb (after P code a) (endOf P code) (h j .0)) (not-i (h j .1))))
       (λ j. or-l (ltb (after P code a) (endOf P code) && not (breaksSlot (shapeAt P code (after P code a)))) (not-i j))
 

@@ -42,9 +42,9 @@ use Rattle.laws.proofs.Instruction.{IsCompleted}
 use Rattle.ranges.specs.declared.Range.{Range}
 use Rattle.items.specs.declared.Item.{Item}
 use Rattle.items.specs.declared.Item.the-variants.{Unbuilt, Built}
-use Rattle.items.specs.declared.Shape.the-variants.{Other, Movei, MovePc, Jr, Jump, Load, Store}
+use Rattle.items.specs.declared.Shape.the-variants.{Other, Movei}
 use Rattle.verdicts.specs.declared.Rule.the-variants as N
-use Rattle.items.specs.Items.{itemIn, itemOf, shapeIn, shapeOf, bytesOf, jumps, always}
+use Rattle.items.specs.Items.{itemIn, itemOf, shapeIn, shapeOf, bytesOf, isJump, always}
 use Rattle.rules.specs.Reading.{breaksSlot, endOf, itemAt, shapeAt, after}
 use Rattle.ranges.specs.Ranges.{full, unknown, exactRange, isExactly}
 use Rattle.rules.specs.Known.{addressRange, transfer, transferOf}
@@ -213,12 +213,12 @@ module _ (P : Processor) (sound : Sound P) (code : List ℕ) (small : length cod
   ends = R N.AllBuilt (m .core .pc) (inv .previous) (inv .is-instruction) .1
 
   -- JR and JUMP
-  module _ (c : Class) (n : ℕ) (item : itemAt P code (m .core .pc) ≡ Built c n) (is-jump : jumps (shapeIn c n) ≡ true) (slot-breaker : breaksSlot (shapeIn c n) ≡ true) (two : bytesOf (shapeIn c n) ≡ 2) (knows-same : transfer P c n (inv .known) ≡ inv .known) (leaves : HoldsValue (shapeIn c n) (m .active)) where
+  module _ (c : Class) (n : ℕ) (item : itemAt P code (m .core .pc) ≡ Built c n) (is-jump : isJump (shapeIn c n) ≡ true) (slot-breaker : breaksSlot (shapeIn c n) ≡ true) (two : bytesOf (shapeIn c n) ≡ 2) (knows-same : transfer P c n (inv .known) ≡ inv .known) (leaves : HoldsValue (shapeIn c n) (m .active)) where
     none : m .core .pending ≡ Q.None
     none = none-pending (ap breaksSlot (shape-is c n item) ∙ slot-breaker)
 
     four : (after P code (m .core .pc) < endOf P code) × (breaksSlot (shapeAt P code (after P code (m .core .pc))) ≡ false)
-    four = R N.DelaySlot (m .core .pc) (inv .previous) (inv .is-instruction) (ap jumps (shape-is c n item) ∙ is-jump)
+    four = R N.DelaySlot (m .core .pc) (inv .previous) (inv .is-instruction) (ap isJump (shape-is c n item) ∙ is-jump)
 
     goes-on : (p : Pending) → (always (shapeIn c n) ≡ true → p ≡ Q.None → ⊥) → ((t : ℕ) → p ≡ Q.At t → IsTarget P code t) → Fits unknown (m .active) → Inv P code (machineWith (m .active) (m .other) (movedOf (m .core) p) (m .memory))
     unfolding transferOf

@@ -16,10 +16,10 @@ use Rattle.verdicts.specs.declared.Rule.the-variants.{AllBuilt, JrTarget, JumpT
 use Rattle.verdicts.specs.declared.Hit.{Hit}
 use Rattle.verdicts.specs.declared.Hit.the-variants as H
 use Rattle.items.specs.declared.Item.{Item}
-use Rattle.items.specs.declared.Item.the-variants.{Unbuilt, Built}
+use Rattle.items.specs.declared.Item.the-variants.{Unbuilt}
 use Rattle.items.specs.declared.Shape.{Shape}
 use Rattle.items.specs.declared.Shape.the-variants.{Other, Movei, MovePc, Jr, Jump, Load, Store}
-use Rattle.items.specs.Items.{shapeOf, isBuilt, jumps, always}
+use Rattle.items.specs.Items.{shapeOf, isBuilt, isJump, always}
 use Rattle.rules.specs.Reading.{breaksSlot, endOf, itemAt, shapeAt, after, before}
 use Rattle.rules.specs.Scan.{found, firstBad}
 use Rattle.ranges.specs.Ranges.{unknown}
@@ -94,7 +94,7 @@ module _ (P : Processor) (code : List ℕ) where
 
   unfoldable pub ok4 : ℕ → Item → Bool
   ok4 a p =
-      not (jumps (shapeAt P code a)) || (ltb (after P code a) (endOf P code) && not (breaksSlot (shapeAt P code (after P code a))))
+      not (isJump (shapeAt P code a)) || (ltb (after P code a) (endOf P code) && not (breaksSlot (shapeAt P code (after P code a))))
 
   unfoldable pub ok5 : ℕ → Item → Bool
   ok5 a p = not (eqb (after P code a) (endOf P code)) || (always (shapeOf p) && not (isTarget a))

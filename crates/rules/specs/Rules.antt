@@ -15,7 +15,7 @@ use Rattle.items.specs.declared.Shape.the-variants.{Movei, Jr, Jump, Load, Stor
 use Rattle.verdicts.specs.declared.Rule.{Rule}
 use Rattle.verdicts.specs.declared.Rule.the-variants.{AllBuilt, JrTarget, JumpTarget, DelaySlot, Ending, Access}
 use Rattle.verdicts.specs.Verdicts.{ruleNumber}
-use Rattle.items.specs.Items.{shapeOf, jumps, always}
+use Rattle.items.specs.Items.{shapeOf, isJump, always}
 use Rattle.rules.specs.Reading.{breaksSlot, endOf, itemAt, shapeAt, after, before, Reads}
 use Rattle.ranges.specs.Ranges.{unknown}
 use Rattle.rules.specs.Known.{addressRange, transferOf}
@@ -87,7 +87,7 @@ module _ (P : Processor) (code : List ℕ) where
   -- 4. "Each JR and JUMP has an instruction after it, which is not JR, JUMP, MOVEI or MOVE PC."
   abbrev pub Rule4 : ℕ → Item → Type 0
   Rule4 a p =
-      jumps (shapeAt P code a) ≡ true → (after P code a < endOf P code) × (breaksSlot (shapeAt P code (after P code a)) ≡ false)
+      isJump (shapeAt P code a) ≡ true → (after P code a < endOf P code) × (breaksSlot (shapeAt P code (after P code a)) ≡ false)
 
   -- 5. "The next to last instruction is a JR or JUMP with condition 0; the last is no target. The address told is the last's."
   abbrev pub Rule5 : ℕ → Item → Type 0

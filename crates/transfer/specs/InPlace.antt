@@ -1,4 +1,4 @@
--- An instruction by the ranges that it asks for and the one that it changes: the definitions of Known.antt, told of the two
+-- An instruction by the ranges that it asks for and the one that it changes: the definitions of rules/specs/Known.antt, told of the two
 -- ranges instead of all 32.
 use Prim.Native.Nat.{ℕ}
 use mathlib.Core.Bool.{Bool, true, false}

@@ -15,13 +15,13 @@ use processor::Gpu;
 use ranges::Range;
 use ranges::and;
 use ranges::anything;
-use ranges::both;
-use ranges::either;
 use ranges::exact;
 use ranges::is_exactly;
 use ranges::less;
 use ranges::shifted;
 use ranges::sum;
+use values::both;
+use values::either;
 
 // The first address behind RAM.
 const TOP: u32 = Gpu::BASE + Gpu::SIZE as u32;
@@ -33,7 +33,7 @@ fn is_inside(from: u32, a: u32) -> bool
 }
 
 // Whether an access with an address in x can only reach RAM from an address on, or one built register.
-pub fn allows(from: u32, x: Range) -> bool
+fn allows(from: u32, x: Range) -> bool
     ensures { λ r. ⌜ r ≡ within gpu from x ⌝ }
 {
     let in_ram = both(is_inside(from, x.low), is_inside(from, x.high));

@@ -2,6 +2,7 @@
 //
 // A register is a u32. A flag is a number too, for speed: a bit, which every instruction keeps.
 ghost use mathlib.Core.Path.{_≡_};
+ghost use mathlib.Core.Bool.{_&&_, _||_};
 ghost use Rattle.values.specs.Results.{bitOf, flagsOf};
 
 pub mod signed;
@@ -22,6 +23,19 @@ pub fn bit(on: bool) -> u32
     ensures { λ r. ⌜ r ≡ bitOf on ⌝ }
 {
     if on { 1 } else { 0 }
+}
+
+// `a && b` and `a || b` as calls, which leave their caller no branch to prove.
+pub fn both(a: bool, b: bool) -> bool
+    ensures { λ r. ⌜ r ≡ (a && b) ⌝ }
+{
+    if a { b } else { false }
+}
+
+pub fn either(a: bool, b: bool) -> bool
+    ensures { λ r. ⌜ r ≡ (a || b) ⌝ }
+{
+    if a { true } else { b }
 }
 
 impl Computed {
