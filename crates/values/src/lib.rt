@@ -1,4 +1,4 @@
-// Values of 32 bits: results and flags of the operations, and two's complement.
+// Values of 32 bits: results and flags of the operations, and two's complement. Beside them, truth values joined.
 //
 // A register is a u32. A flag is a number too, for speed: a bit, which every instruction keeps.
 ghost use mathlib.Core.Path.{_≡_};
