@@ -3,52 +3,79 @@ CFLAGS = -std=c11 -O2 -Wall -Wextra -Werror -Iinclude -Ibench
 ARCHIVE = target/staticlib/libkiosk.a
 IMAGE = examples/card.words
 TABLE = docs/vectors/base.csv
+PREFIX = /usr/local
+VERSION := $(shell cat VERSION)
 # What the archive is made of; a change makes it anew.
 SOURCES = crates.txt $(shell find crates -name '*.rt' -o -name '*.antt')
 DIFFERENTIAL = $(wildcard tests/differential/*.c) bench/interpreter.c
 
-.PHONY: help run loadcheck explain rows table kiosk test tests programs pages differential loading bench links instructions check
+# The verbs of the command gpu as targets, and the settings that may stand beside them. Anything else is refused there: make would
+# run `make run FILE` and `make run image=FILE` on the default image, as if that had been asked for.
+VERBS = run loadcheck explain show kiosk table log
+SETTINGS = IMAGE LENGTH FRAMES TABLE LOG
+ifneq ($(filter $(VERBS),$(MAKECMDGOALS)),)
+STRAY = $(filter-out $(VERBS),$(MAKECMDGOALS))
+UNKNOWN = $(filter-out $(SETTINGS),$(foreach name,$(.VARIABLES),$(if $(filter command line,$(origin $(name))),$(name))))
+ifneq ($(STRAY),)
+$(error '$(firstword $(STRAY))' is no target: to run a file type 'make run IMAGE=FILE' or './gpu run FILE')
+endif
+ifneq ($(strip $(UNKNOWN)),)
+$(error '$(firstword $(UNKNOWN))' is no setting: the settings are $(SETTINGS), in capitals)
+endif
+endif
+
+.PHONY: help $(VERBS) rows test tests programs pages released differential loading bench links instructions check map release \
+	install uninstall
+
+# Settings reach gpu through its environment, so that no character of theirs means anything to the shell.
+export IMAGE LENGTH FRAMES TABLE LOG
+length = $(if $(LENGTH),--length "$$LENGTH")
 
 help: ## list these commands
 	@grep -E '^[a-z]+:.*##' Makefile | sed 's/:.*## /\t/' | expand -t 14
+	@echo "./gpu help lists the verbs of the command that they call"
 
-run: ## run an image and print its card: IMAGE=FILE, of 4,096 bytes or a .words file (default: paper 01's card)
-	@tools/prove check run
-	@case "$(IMAGE)" in \
-	*.words) python3 tools/image.py "$(IMAGE)" | target/bin/run ;; \
-	*) target/bin/run <"$(IMAGE)" ;; \
-	esac
+run: ## run an image and print its card: IMAGE=FILE (default: paper 01's card)
+	@./gpu run "$$IMAGE"
 
-loadcheck: ## check an image before it runs: IMAGE=FILE, as for run, and LENGTH=BYTES of code (default: paper 01's card)
-	@tools/prove check loadcheck
-	@{ python3 tools/image.py "$(IMAGE)"; echo "$(or $(LENGTH),16)"; } | target/bin/loadcheck
+loadcheck: ## check an image before it runs: IMAGE=FILE, and LENGTH=BYTES of code where the file does not state it
+	@./gpu check "$$IMAGE" $(length)
 
-explain: ## run an image and explain its card in plain words: IMAGE=FILE, as for run; with LENGTH=BYTES check it instead
-	@tools/prove check run loadcheck explain
-	@$(MAKE) --no-print-directory $(if $(LENGTH),loadcheck,run) | target/bin/explain
+explain: ## run an image and explain its card in plain words: IMAGE=FILE; with LENGTH=BYTES check it instead
+	@./gpu explain "$$IMAGE" $(length)
+
+show: ## show an image word by word: IMAGE=FILE
+	@./gpu show "$$IMAGE" $(length)
+
+kiosk: ## run an image frame by frame: IMAGE=FILE, checked first where its length is known; FRAMES=N
+	@./gpu kiosk "$$IMAGE" $(length) $(if $(FRAMES),--frames "$$FRAMES")
+
+table: ## run each instruction of a table: TABLE=FILE.csv (default: docs/vectors/base.csv); draws target/table.html
+	@./gpu table "$$TABLE" --quiet --page target/table.html
+
+log: ## sum up a day of a firing log, and draw it: LOG=FILE
+	@./gpu log "$$LOG"
 
 rows: ## run the published rows and the further vectors through the compiled functions
-	@tools/prove check published vectors
+	@scripts/prove check published vectors
 	@target/bin/published
 	@target/bin/vectors
-
-table: target/libgpu.so ## run each instruction of a table: TABLE=FILE.csv (default: docs/vectors/base.csv); draws target/table.html
-	@python3 tools/table.py "$(TABLE)" --quiet --page target/table.html
-
-kiosk: target/kiosk ## run an image frame by frame: IMAGE=FILE, as for run; checked first with LENGTH=BYTES, and then FRAMES=N
-	@python3 tools/image.py "$(IMAGE)" >target/image.bin && target/kiosk target/image.bin $(LENGTH) $(if $(LENGTH),$(FRAMES))
 
 test: ## the whole gate: proofs, must-fail edits, programs, tests
 	@.ci/run
 
 tests: ## the tests over what is built already
-	@$(MAKE) --no-print-directory -j2 programs pages differential loading
+	@$(MAKE) --no-print-directory -j2 programs pages released differential loading
 
 programs:
 	@tests/programs
 
-pages: target/kiosk target/libgpu.so
+pages: target/kiosk target/libgpu.so.0
 	@tests/run
+
+released: target/kiosk target/libgpu.so.0
+	@python3 tests/release.py
+	@python3 tests/gpu_command.py
 
 differential loading: %: target/%
 	@target/$@
@@ -64,16 +91,27 @@ instructions: target/bench ## count the instructions of a step, with valgrind
 	@bench/instructions
 
 check: ## prove what has changed, and run the programs
-	@tools/in_memory rt check
+	@scripts/in_memory rt check
 
 $(ARCHIVE): $(SOURCES)
-	@echo "building $@: about a minute, and in a fresh clone about five, with a line for each crate" >&2
-	@tools/prove staticlib kiosk
+	@scripts/prove staticlib kiosk
 	@touch $@
 
+map: ## draw docs/map.svg from crates.txt
+	@scripts/map
+
+release: ## make the release that runs without prover and compiler: a folder and an archive in target/release
+	@scripts/release
+
+install: release ## install the release: PREFIX=FOLDER (default: /usr/local)
+	@PREFIX="$(PREFIX)" DESTDIR="$(DESTDIR)" scripts/install target/release/gpu-$(VERSION)
+
+uninstall: ## remove what was installed: PREFIX=FOLDER
+	@PREFIX="$(PREFIX)" DESTDIR="$(DESTDIR)" scripts/install --remove
+
 # The archive's code is position independent; -z text makes the linker refuse any that is not.
-target/libgpu.so: $(ARCHIVE)
-	@$(CC) -shared -Wl,-z,defs -Wl,-z,text -Wl,--whole-archive $(ARCHIVE) -Wl,--no-whole-archive -o $@
+target/libgpu.so.0: $(ARCHIVE)
+	@$(CC) -shared -Wl,-soname,libgpu.so.0 -Wl,-z,defs -Wl,-z,text -Wl,--whole-archive $(ARCHIVE) -Wl,--no-whole-archive -o $@
 
 target/differential: $(DIFFERENTIAL) $(ARCHIVE)
 	$(CC) $(CFLAGS) $(DIFFERENTIAL) $(ARCHIVE) -o $@
@@ -87,5 +125,5 @@ target/bench: bench/bench.c bench/interpreter.c $(ARCHIVE)
 target/checkbench: bench/check.c $(ARCHIVE)
 	$(CC) $(CFLAGS) bench/check.c $(ARCHIVE) -o $@
 
-target/kiosk: examples/kiosk.c $(ARCHIVE)
+target/kiosk: examples/kiosk.c $(wildcard examples/kiosk/*.h) $(ARCHIVE)
 	$(CC) $(CFLAGS) examples/kiosk.c $(ARCHIVE) -o $@

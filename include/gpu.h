@@ -13,6 +13,9 @@
 extern "C" {
 #endif
 
+/* The library's version as a text; the file VERSION has the same. */
+#define GPU_VERSION "0.1.0"
+
 /* The lengths of the two buffers in bytes, and the largest budget. */
 enum {
     GPU_RAM_LENGTH = 4096,

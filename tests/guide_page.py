@@ -1,44 +1,67 @@
-"""Types each command that docs/GUIDE.md shows behind a $, and holds what it prints to the lines that the page shows.
+"""Types each command that docs/GUIDE.md shows behind a $, and holds what a person sees to the lines that the page shows.
 
-    python3 tests/guide_page.py
+    python3 tests/guide_page.py [FOLDER]      in a clone, by default this one, or in the folder of a release
 
-A last line of three dots stands for whatever else is printed.
+A last line of three dots stands for whatever else comes.
 """
 
-import os
 import re
+import shlex
 import subprocess
 import sys
 import textwrap
 from pathlib import Path
 
 ROOT = Path(__file__).resolve().parent.parent
-PAGE = ROOT / "docs" / "GUIDE.md"
+# Those that a display must not refuse may end so: in good order, or with the refusal that the page is about.
+STATUSES = {0, 1}
 
 
 def shown(text):
     """The commands of the page, each with the lines that should be seen."""
     for body in re.findall(r"^ *```\n(.*?)^ *```$", text, re.MULTILINE | re.DOTALL):
         command, *lines = textwrap.dedent(body).splitlines()
-        if not command.startswith("$ make "):
-            sys.exit(f"guide: '{command}' is no command of make")
+        if not command.startswith("$ ./gpu "):
+            sys.exit(f"guide: '{command}' is no command of gpu")
         yield command[2:], lines
 
 
+def mentioned(text):
+    """The commands that stand within a sentence."""
+    return [command for command in re.findall(r"`(\./gpu [^`]*)`", " ".join(text.split())) if "FILE" not in command]
+
+
+def typed(command, folder):
+    """What a person sees who types a command: both streams, in the order in which they come."""
+    return subprocess.run(shlex.split(command), cwd=folder, stdin=subprocess.DEVNULL, stdout=subprocess.PIPE,
+                          stderr=subprocess.STDOUT, text=True, timeout=600)
+
+
+def hold(command, lines, folder):
+    done = typed(command, folder)
+    seen = done.stdout.splitlines()
+    if lines[-1] == "...":
+        lines = lines[:-1]
+        rest, seen = seen[len(lines):], seen[:len(lines)]
+        if not rest:
+            sys.exit(f"guide: {command} prints nothing where the page has three dots")
+    if seen != lines or done.returncode not in STATUSES:
+        sys.exit(f"guide: {command} ends with {done.returncode} and prints\n" + "\n".join(seen) + "\nand the page shows\n"
+                 + "\n".join(lines))
+
+
 def main():
-    commands = list(shown(PAGE.read_text(encoding="utf-8")))
-    if not commands:
-        sys.exit("guide: there is no command")
-    # A make that was called by make would say so.
-    outside = {name: value for name, value in os.environ.items() if name not in ("MAKEFLAGS", "MFLAGS", "MAKELEVEL")}
+    folder = Path(sys.argv[1]) if len(sys.argv) > 1 else ROOT
+    text = (folder / "docs" / "GUIDE.md").read_text(encoding="utf-8")
+    commands = list(shown(text))
+    if len(commands) < 5:
+        sys.exit("guide: there are too few commands")
     for command, lines in commands:
-        done = subprocess.run(command.split(), cwd=ROOT, env=outside, stdout=subprocess.PIPE, text=True, timeout=600)
-        printed = done.stdout.splitlines()
-        if lines[-1] == "...":
-            lines = lines[:-1]
-            printed = printed[:len(lines)]
-        if printed != lines:
-            sys.exit(f"guide: {command} prints\n" + "\n".join(printed) + "\nand the page shows\n" + "\n".join(lines))
+        hold(command, lines, folder)
+    for command in mentioned(text):
+        verb = shlex.split(command)[1]
+        if typed(f"./gpu help {verb}", folder).returncode != 0:
+            sys.exit(f"guide: the page speaks of '{command}', and there is no such verb")
     print(f"guide: {len(commands)} commands print what the page shows")
 
 

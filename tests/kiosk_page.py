@@ -92,7 +92,7 @@ def check_program(text, archive, folder):
     source.write_text("".join(pieces(text, "c")))
     compile_with(["gcc", "-std=c11", "-O2", *WARNINGS, "-Iinclude", source, archive, "-o", program])
 
-    ramp = read_image(ROOT / "examples" / "ramp.words")
+    ramp = read_image(ROOT / "examples" / "ramp.words").ram
     image = folder / "ramp.bin"
     image.write_bytes(ramp)
     lines, machines = frames(ramp, START)
@@ -110,7 +110,7 @@ def check_program(text, archive, folder):
         expect(folder, [program, saved], 0, lines[done:])
 
     # A fault is kept: RAM and block as before the faulty step.
-    faulty = read_image(ROOT / "examples" / "fault.words")
+    faulty = read_image(ROOT / "examples" / "fault.words").ram
     saved.write_bytes(faulty + block_of(START))
     lines, machines = frames(faulty, START)
     expect(folder, [program, saved], 1, lines)
@@ -132,7 +132,7 @@ def check_program(text, archive, folder):
 
 def check_build_line(text, archive, folder):
     """The page's line for gcc builds the example, there with the warnings as errors."""
-    line = re.search(r"^    (gcc .* -o )\S+$", text, re.MULTILINE)
+    line = re.search(rf"^    (gcc .* {re.escape(ARCHIVE)} -o )\S+$", text, re.MULTILINE)
     if line is None:
         fail("there is no line for gcc")
     words = [archive if word == ARCHIVE else word for word in shlex.split(line[1])]

@@ -292,6 +292,11 @@ def card(image):
     """What the run program prints: "six key=value lines in this order: answer and steps in decimal; counter, F02100h value,
     remainder and accumulator as eight hex digits. Bad length prints answer 31 and the start state"."""
     answer, steps, _, state = run(image, START, BUDGET_LIMIT)
+    return card_text(answer, steps, state)
+
+
+def card_text(answer, steps, state):
+    """The six lines of a card."""
     return (
         f"answer={answer}\n"
         f"steps={steps}\n"

@@ -1,4 +1,4 @@
-"""Holds tools/quotations to what it says of itself, on a small repository of its own.
+"""Holds scripts/quotations to what it says of itself, on a small repository of its own.
 
     python3 tests/quotations.py
 """
@@ -61,9 +61,9 @@ class Repository:
 
     def __init__(self, root):
         self.root = Path(root)
-        for folder in ("tools", "docs", "crates/a/specs"):
+        for folder in ("scripts", "docs", "crates/a/specs"):
             (self.root / folder).mkdir(parents=True)
-        shutil.copy(ROOT / "tools" / "quotations", self.root / "tools")
+        shutil.copy(ROOT / "scripts" / "quotations", self.root / "scripts")
         (self.root / "paper").write_text(PAPER, encoding="utf-8")
 
     def holds(self, comment, lines, *words):
@@ -73,7 +73,7 @@ class Repository:
         return self.run(*words)
 
     def run(self, *words):
-        done = subprocess.run([self.root / "tools/quotations", *words], stdout=subprocess.PIPE, stderr=subprocess.PIPE, text=True, timeout=60)
+        done = subprocess.run([self.root / "scripts/quotations", *words], stdout=subprocess.PIPE, stderr=subprocess.PIPE, text=True, timeout=60)
         if done.returncode not in (0, 1):
             tell(f"{words} ends with {done.returncode}: {done.stderr}")
         return done.returncode == 0, done.stderr

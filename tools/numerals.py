@@ -7,10 +7,18 @@ import re
 
 # More digits than any column takes are no number.
 MARKED = re.compile(r"(?:0x|\$)([0-9a-f]{1,16})|([0-9a-f]{1,16})h", re.IGNORECASE)
+# As much of a cell as is repeated where it can not be read.
+SHOWN = 40
 
 
 class Unreadable(Exception):
     """A text that can not be read; the message says what is expected, and what to do."""
+
+
+def cut(text):
+    """A text as a message repeats it: on one line, and not at any length."""
+    text = " ".join(text.split())
+    return text if len(text) <= SHOWN else text[:SHOWN] + "…"
 
 
 def number_of(text, plain_hex=False):
@@ -24,11 +32,11 @@ def number_of(text, plain_hex=False):
     if re.fullmatch(r"[+-]?[0-9]{1,20}", text):
         return int(text)
     if re.fullmatch(r"[+-]?[0-9]+([.,][0-9]+)?[Ee][+-]?[0-9]+", text):
-        raise Unreadable(f"'{text}' is what a spreadsheet makes of a long number: set the column's format to Text and write "
-                         "the number again")
+        raise Unreadable(f"'{cut(text)}' is what a spreadsheet makes of a long number: set the column's format to Text and "
+                         "write the number again")
     if re.fullmatch(r"[0-9A-Fa-f]{1,16}", text):
         raise Unreadable(f"'{text}' has hex letters and no mark: write 0x{text}, ${text} or {text}h")
-    raise Unreadable(f"'{text}' is not a number: write a decimal number such as 31 or -1, or a hexadecimal one such as "
+    raise Unreadable(f"'{cut(text)}' is not a number: write a decimal number such as 31 or -1, or a hexadecimal one such as "
                      "0x1F, $1F or 1Fh")
 
 

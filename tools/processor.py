@@ -1,4 +1,4 @@
-"""The proved processor, called for one step: gpu_run of include/gpu.h, with a budget of 1.
+"""The proved processor, called for one step or for more: gpu_run of include/gpu.h.
 
 A part of RAM or of the state is reached by the name that its column has in a table: R5, A5, Z, counter, ram F03800.
 """
@@ -29,6 +29,16 @@ class Machine:
         self.write("bank", bank)
         self.write("running", 1)
         self.write("counter", RAM_BASE)
+
+    @classmethod
+    def of(cls, ram, block=None):
+        """The machine of these bytes; without a block one that begins, as the run program does."""
+        machine = cls()
+        machine.ram[:] = ram
+        if block is not None:
+            machine.block[:] = block
+            machine.bank = machine.read("bank")
+        return machine
 
     def copy(self):
         other = Machine(self.bank)
@@ -83,15 +93,16 @@ class Machine:
 
 
 def load(path):
-    """The step of the library in a file: a function that changes a machine and gives answer and steps."""
+    """The run of the library in a file: a function that changes a machine, by one step or by a budget of them, and gives
+    answer and steps."""
     run = ctypes.CDLL(path).gpu_run
     run.restype = ctypes.c_uint64
     run.argtypes = [ctypes.c_void_p, ctypes.c_size_t, ctypes.c_void_p, ctypes.c_size_t, ctypes.c_uint64]
     ram_type, block_type = ctypes.c_ubyte * RAM_LENGTH, ctypes.c_ubyte * BLOCK_LENGTH
 
-    def step(machine):
+    def step(machine, budget=1):
         ram, block = ram_type.from_buffer(machine.ram), block_type.from_buffer(machine.block)
-        reply = run(ram, RAM_LENGTH, block, BLOCK_LENGTH, 1)
+        reply = run(ram, RAM_LENGTH, block, BLOCK_LENGTH, budget)
         return reply % 256, reply // 256
 
     return step

@@ -29,8 +29,7 @@ pub fn explain(text: &[u8], out: &mut [u8; 1024]) -> usize
             b"This is no card.\n\
               What happened: the text does not begin with a line that says answer, an equals sign and a number.\n\
               Where to look: at the first line of the text.\n\
-              What to do: run make run or make loadcheck and explain its whole output, from the first line to the \
-              last.\n",
+              What to do: run gpu run or gpu check and explain its whole output, from the first line to the last.\n",
             0,
             0,
         ),
