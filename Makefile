@@ -1,35 +1,56 @@
 CC = gcc
 CFLAGS = -std=c11 -O2 -Wall -Wextra -Werror -Iinclude -Ibench
 ARCHIVE = target/staticlib/libkiosk.a
-IMAGE = examples/card.words
-TABLE = docs/vectors/base.csv
-PREFIX = /usr/local
 VERSION := $(shell cat VERSION)
 # What the archive is made of; a change makes it anew.
 SOURCES = crates.txt $(shell find crates -name '*.rt' -o -name '*.antt')
 DIFFERENTIAL = $(wildcard tests/differential/*.c) bench/interpreter.c
 
-# The verbs of the command gpu as targets, and the settings that may stand beside them. Anything else is refused there: make would
-# run `make run FILE` and `make run image=FILE` on the default image, as if that had been asked for.
-VERBS = run loadcheck explain show kiosk table log
-SETTINGS = IMAGE LENGTH FRAMES TABLE LOG
-ifneq ($(filter $(VERBS),$(MAKECMDGOALS)),)
-STRAY = $(filter-out $(VERBS),$(MAKECMDGOALS))
-UNKNOWN = $(filter-out $(SETTINGS),$(foreach name,$(.VARIABLES),$(if $(filter command line,$(origin $(name))),$(name))))
+# The targets for people, each with the settings that may stand beside it. Anything else is refused there: make would run
+# `make run FILE` and `make run image=FILE` on the default image, and take away what stands in the default PREFIX, as if that had
+# been asked for.
+settings_run = IMAGE
+settings_loadcheck = IMAGE LENGTH
+settings_explain = IMAGE LENGTH
+settings_show = IMAGE LENGTH
+settings_kiosk = IMAGE LENGTH FRAMES
+settings_table = TABLE
+settings_log = LOG
+settings_install = PREFIX DESTDIR
+settings_uninstall = PREFIX DESTDIR
+GUARDED = $(patsubst settings_%,%,$(filter settings_%,$(.VARIABLES)))
+CHOSEN := $(filter $(GUARDED),$(MAKECMDGOALS))
+ifneq ($(CHOSEN),)
+ALLOWED := $(foreach target,$(CHOSEN),$(settings_$(target)))
+STRAY := $(filter-out $(CHOSEN),$(MAKECMDGOALS))
+GIVEN := $(foreach name,$(.VARIABLES),$(if $(filter command line,$(origin $(name))),$(name)))
+UNKNOWN := $(filter-out $(ALLOWED),$(GIVEN))
 ifneq ($(STRAY),)
-$(error '$(firstword $(STRAY))' is no target: to run a file type 'make run IMAGE=FILE' or './gpu run FILE')
+$(error '$(firstword $(STRAY))' is not understood beside $(CHOSEN): a file is named as in 'make run IMAGE=FILE' or './gpu run FILE')
 endif
-ifneq ($(strip $(UNKNOWN)),)
-$(error '$(firstword $(UNKNOWN))' is no setting: the settings are $(SETTINGS), in capitals)
+ifneq ($(UNKNOWN),)
+$(error '$(firstword $(UNKNOWN))' is no setting of $(CHOSEN): there it may be $(ALLOWED), in capitals)
 endif
 endif
 
-.PHONY: help $(VERBS) rows test tests programs pages released differential loading bench links instructions check map release \
-	install uninstall
-
-# Settings reach gpu through its environment, so that no character of theirs means anything to the shell.
+# Settings come from the command line or the environment, and reach a command through its environment as they were written: no
+# character of theirs means anything to make or to the shell.
+IMAGE ?= examples/card.words
+TABLE ?= docs/vectors/base.csv
+PREFIX ?= /usr/local
+override IMAGE := $(value IMAGE)
+override LENGTH := $(value LENGTH)
+override FRAMES := $(value FRAMES)
+override TABLE := $(value TABLE)
+override LOG := $(value LOG)
+override PREFIX := $(value PREFIX)
+override DESTDIR := $(value DESTDIR)
 export IMAGE LENGTH FRAMES TABLE LOG
+install uninstall: export PREFIX := $(PREFIX)
+install uninstall: export DESTDIR := $(DESTDIR)
 length = $(if $(LENGTH),--length "$$LENGTH")
+
+.PHONY: help $(GUARDED) rows test tests programs pages released differential loading bench links instructions check map release
 
 help: ## list these commands
 	@grep -E '^[a-z]+:.*##' Makefile | sed 's/:.*## /\t/' | expand -t 14
@@ -104,10 +125,10 @@ release: ## make the release that runs without prover and compiler: a folder and
 	@scripts/release
 
 install: release ## install the release: PREFIX=FOLDER (default: /usr/local)
-	@PREFIX="$(PREFIX)" DESTDIR="$(DESTDIR)" scripts/install target/release/gpu-$(VERSION)
+	@scripts/install target/release/gpu-$(VERSION)
 
 uninstall: ## remove what was installed: PREFIX=FOLDER
-	@PREFIX="$(PREFIX)" DESTDIR="$(DESTDIR)" scripts/install --remove
+	@scripts/install --remove
 
 # The archive's code is position independent; -z text makes the linker refuse any that is not.
 target/libgpu.so.0: $(ARCHIVE)

@@ -15,6 +15,8 @@
    --steps N         the most steps of a frame, by default 100,000
    --picture ADDRESS:WIDTHxHEIGHT[:byte]
                      draw in each frame so many longs of RAM, or bytes, from an address on
+   --gpu COMMAND     how the command gpu is typed, by default gpu
+   --explain COMMAND the command that explains why the image was refused or broke off, where nothing is kept of it
 
    The program ends with 0 if the image stopped itself, used up its frames or was ended by a person, with 1 on a fault, and
    with 2 if there was nothing to run, or if log or screen could not be written. */
@@ -48,32 +50,48 @@ struct kiosk {
     bool logged;       /* the log has a line of every frame */
 };
 
-/* Sends the screen all that was printed. Why it fails is told, unless a person's signal brought it about. */
+/* Sends the screen all that was printed, however long it takes, also past a signal. If it can not be written, says why. */
 static bool flush_screen(void)
 {
     if (fflush(stdout) == 0 && !ferror(stdout)) {
         return true;
     }
-    if (ending_signal == 0) {
-        fprintf(stderr, "kiosk: the screen, standard output, can not be written (%s), so nothing more is run\n",
-                strerror(errno));
-    }
+    fprintf(stderr, "kiosk: the screen, standard output, can not be written (%s), so nothing more is run\n",
+            strerror(errno));
     return false;
 }
 
-/* Says how the run ended. `kept` is the file that a fault was kept in, or empty. */
+static void tell_image(const struct kiosk *k)
+{
+    printf("image %s, checksum %08" PRIX32 "\n", k->log.image, k->log.checksum);
+}
+
+static void tell_explanation(const struct kiosk *k)
+{
+    if (k->given.explain != NULL) {
+        printf("To have it explained: %s\n", k->given.explain);
+    }
+}
+
+/* Says how the run ended. `kept` is the file that a fault was kept in, or empty. The image is named here, since a picture has
+   wiped from the terminal what was said of it before. */
 static void report(const struct kiosk *k, const char *how, const char *kept)
 {
     printf("%s\n", how);
     printf("answer %u after %" PRIu64 " steps, in frame %" PRIu64 "\n", k->last.answer, k->last.total, k->last.frame);
+    tell_image(k);
     if (is_in_good_order(k->last.answer) || is_fault(k->last.answer)) {
         show_state(&k->machine);
     }
     if (is_fault(k->last.answer)) {
-        printf("Write down the name of the image and all that stands here, for the restorers.\n");
-    }
-    if (kept[0] != '\0') {
-        printf("Memory and registers are kept in a file. Have it explained: gpu explain %s\n", kept);
+        printf("Write down all that stands here, for the restorers.\n");
+        if (kept[0] != '\0') {
+            printf("Memory and registers are kept in a file. To have it explained: %s explain ", k->given.gpu);
+            print_quoted(kept);
+            printf("\n");
+        } else {
+            tell_explanation(k);
+        }
     }
 }
 
@@ -160,7 +178,7 @@ static int run_frames(struct kiosk *k)
         k->seen = flush_screen();
     }
     if (ended) {
-        return log_end(k) ? 0 : 2;
+        return log_end(k) && k->seen ? 0 : 2;
     }
     if (!k->seen || !(is_in_good_order(k->last.answer) || is_fault(k->last.answer))) {
         return 2;
@@ -179,6 +197,8 @@ static bool is_admitted(struct kiosk *k)
     }
     printf("%s\n", sentence(e.answer));
     printf("answer %u at %08" PRIX32 "\n", e.answer, e.counter);
+    tell_image(k);
+    tell_explanation(k);
     k->seen = flush_screen();
     log_line(&k->log, &e, "", "");
     return false;
@@ -187,7 +207,7 @@ static bool is_admitted(struct kiosk *k)
 static int run(struct kiosk *k)
 {
     if (!k->given.checked) {
-        printf("The program was not checked. Give the length of its code to have it checked.\n");
+        printf("The program was not checked. Give its length (--length N, or N behind the image) to have it checked.\n");
     } else if (!is_admitted(k)) {
         return 2;
     }

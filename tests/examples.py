@@ -15,7 +15,7 @@ ROOT = Path(__file__).resolve().parent.parent
 EXAMPLES = ROOT / "examples"
 sys.path.insert(0, str(ROOT / "tools"))
 
-from image import image_of, read_image
+from images import image_of, read_image
 from machine import BUDGET_LIMIT, START, card, card_text, run
 
 # An image has 4,096 bytes, and the program reads 4,097: around both, twice as long, and much longer.

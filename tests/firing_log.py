@@ -21,7 +21,7 @@ ROOT = Path(__file__).resolve().parent.parent
 sys.path.insert(0, str(ROOT / "tools"))
 
 from command import dispatch
-from image import image_of, read_image
+from images import image_of, read_image
 from logs import chart, firing
 
 SVG = "{http://www.w3.org/2000/svg}"
@@ -75,7 +75,7 @@ Images:
   ramp.words, checksum 407E1239, version 0.1.0: 4 frames
 First frame:            00:00:01.500+01:00
 Last frame:             23:59:59.999+01:00
-Runs:                   7, of which 1 had begun before
+Runs:                   6, of which 1 had begun on another day or in a line that is missing
 Frames:                 9
 Steps:                  4,000,211
 Stops by the program:   1
@@ -87,7 +87,7 @@ Faults:                 3
   10:50:00.000+01:00  answer 13, counter 00F0300C, kept in a.saved, drum & <spot>.words
   10:55:00.000+01:00  answer 11, counter 00F0300C, not kept, drum & <spot>.words
   11:00:00.000+01:00  answer 12, counter 00F0300C, kept in b.saved, drum & <spot>.words
-{damage}To have the last fault explained: 'gpu explain {folder}/b.saved'
+{damage}To have the last fault explained: './gpu explain {folder}/b.saved'
 The picture is {svg}
 """
 
@@ -105,7 +105,7 @@ class Told:
     """What `gpu log` says, in its folder."""
 
     def __init__(self, folder, content, *words, name="firing.log"):
-        self.log = folder / name
+        self.log = folder / name if name else ""
         if content is not None:
             self.log.write_bytes("".join(content).encode("utf-8", "surrogateescape"))
         out, err = io.StringIO(), io.StringIO()
@@ -115,7 +115,7 @@ class Told:
             except SystemExit as ended:
                 self.status = ended.code
         self.out, self.err = out.getvalue(), err.getvalue()
-        assert not list(folder.glob("*.part")), "a part of a picture was left"
+        assert not list(folder.glob("*.new")), "a part of a picture was left"
 
     def expect(self, status, *parts, out=None):
         assert self.status == status, f"ended with {self.status} and not {status}:\n{self.out}{self.err}"
@@ -154,7 +154,7 @@ def days(folder):
     low, high, lowest, other = told.heights
     assert low == lowest == 1 and high == other == max(told.heights) > 100, told.heights
     assert "Firing log of 2026-11-17" in texts, texts
-    assert "7 runs, 9 frames, 4,000,211 steps, from 00:00:01 to 23:59:59" in texts, texts
+    assert "6 runs, 9 frames, 4,000,211 steps, from 00:00:01 to 23:59:59" in texts, texts
     assert "drum & <spot>.words, checksum 1A2B3C4D, version 0.1.0" in texts and "in millions" in texts, texts
     assert "Fault at 10:50:00: answer 13, counter 00F0300C, drum & <spot>.words, kept in a.saved" in texts, texts
 
@@ -184,6 +184,30 @@ def damage(folder):
                                               damage="the last line of the log, line 12, is cut off and passed over\n"))
 
 
+def missing_lines(folder):
+    """A run whose first line is missing counts by its other lines, so that runs, ends and frames fit together."""
+    moment = "2026-11-17T10:00:00.000"
+
+    def run(first, last, *end):
+        """The lines of a run from a frame to another, and the one that ends it."""
+        return [line(moment, RAMP, n, 0, 1, n) for n in range(first, last + 1)] + [line(moment, RAMP, *each) for each in end]
+
+    stop, fault, person = (4, 1, 1, 4), (4, 13, 1, 4, "\tkept=none"), (3, 0, 0, 3, "\tended=SIGTERM")
+    refusal = [line(moment, RAMP, 0, 25, 0, 0)]
+    for lines, runs, before, frames, untold in (
+            (run(1, 3, stop) + run(2, 3, stop), 2, 1, 7, 0), (run(2, 3, stop) + run(2, 3, fault), 2, 2, 6, 0),
+            (run(1, 3) + run(2, 3, person), 2, 1, 5, 1), (run(1, 3) + run(3, 5), 2, 1, 6, 2),
+            (run(1, 1, stop) + run(4, 3, person), 2, 1, 2, 0), (run(1, 2, person), 1, 0, 2, 0),
+            (run(1, 3) + run(1, 3), 2, 0, 6, 2),
+            (run(1, 2) + refusal + run(3, 5), 2, 1, 5, 2), (refusal + refusal, 0, 0, 0, 0)):
+        more = f", of which {before} had begun on another day or in a line that is missing" if before else ""
+        Told(folder, lines).expect(0, f"Runs: {runs}{more}\n", f"Frames: {frames}\n", f"Ends that are not told: {untold}")
+    # The first line is damaged, and on the next day the run goes on and ends.
+    lines = ["x\n", *run(2, 3), line("2026-11-18T00:00:00.000", RAMP, *person)]
+    Told(folder, lines, "--day", "2026-11-17").expect(1, "Runs: 1, of which 1 had begun", "Ends that are not told: 1:")
+    Told(folder, lines).expect(1, "Runs: 1, of which 1 had begun", "Frames: 0\n", "Ends by a person: 1\n", "not told: 0\n")
+
+
 def refused(folder):
     """What can not be read or written is said in a sentence, with status 2."""
     Told(folder, []).expect(2, "gpu log: ", "the log is empty", out="")
@@ -192,6 +216,7 @@ def refused(folder):
     Told(folder, SECOND_DAY)
     Told(folder, None, name="firing.lgo").expect(2, "there is no such file: is it ", "firing.log", out="")
     Told(folder, None, name=".").expect(2, "this is a folder", out="")
+    Told(folder, None, name=None).expect(2, "no log is named", "make log LOG=firing.log", out="")
     Told(folder, SECOND_DAY, "--day", "2026-11-18").expect(2, "has no line of 2026-11-18: its days are 2026-11-17", out="")
     Told(folder, FIRST_DAY + SECOND_DAY, "--day", "2026-11-18").expect(2, "2026-11-16 and 2026-11-17", out="")
     for day in ("17.11.2026", "2026-11-31", "20261117", "today", ""):
@@ -210,15 +235,16 @@ def limits(folder):
         moment = f"2026-11-17T{minute // 60:02}:{minute % 60:02}:00.000"
         image = f"{'very ' * 40}long {minute // 60}", "00000000"
         many += [line(moment, image, 1, 1, 10 ** 12, 0), line(moment, image, 1, 13, 10 ** 12, 0, "\tkept=none"),
-                 line(moment, image, 1, 0, 0, 0, "\tended=SIGINT"), line(moment, RAMP, 0, 26, 0, 0)]
+                 line(moment, image, 1, 0, 0, 0), line(moment, image, 1, 0, 0, 0, "\tended=SIGINT"),
+                 line(moment, RAMP, 0, 26, 0, 0)]
     # A person who ends a run in its first frame begins no other by it.
-    told = Told(folder, many).expect(0, "Runs: 4,320\n", "Faults: 1,440\n", "and 1,340 more\n")
+    told = Told(folder, many).expect(0, "Runs: 4,320\n", "not told: 0\n", "Faults: 1,440\n", "and 1,340 more\n")
     marks, texts = told.picture(folder / "firing.log.2026-11-17.svg")
     assert marks == {"bar": 24, "stop": 96, "person": 96, "refusal": 96, "fault": 96}, marks
     assert "and 1,438 more faults, which gpu log tells" in texts and "in million millions" in texts, texts
     assert "and 23 more images" in texts and len(max(texts, key=len)) < 140, texts
     told = Told(folder, SECOND_DAY[8:9])
-    told.expect(0, "First frame: none\n", "Runs: 1\n", "Refusals: 1\n")
+    told.expect(0, "First frame: none\n", "Runs: 0\n", "not told: 0\n", "Refusals: 1\n")
     assert told.picture(folder / "firing.log.2026-11-17.svg")[0] == {"refusal": 1}
     # A control character would break the picture, and a terminal.
     told = Told(folder, [line("2026-11-17T10:00:00.000", ("a\x1bb", "00000000"), 1, 0, 1, 1)]).expect(0, "a?b, checksum")
@@ -242,7 +268,7 @@ def of_the_kiosk(folder, kiosk):
     """A log that the kiosk wrote is read without a damaged line, and its sums are those of the runs."""
     log = folder / "kiosk.log"
     # A zone in which it is noon, so that no day ends meanwhile.
-    noon = os.environ | {"TZ": f"NOON{datetime.now(timezone.utc).hour - 12:+d}"}
+    noon = {**os.environ, "TZ": f"NOON{datetime.now(timezone.utc).hour - 12:+d}"}
     ramp, fault, endless = folder / "ramp.bin", folder / "fault.bin", folder / "endless.bin"
     ramp.write_bytes(read_image(ROOT / "examples" / "ramp.words").ram)
     fault.write_bytes(read_image(ROOT / "examples" / "fault.words").ram)
@@ -255,16 +281,16 @@ def of_the_kiosk(folder, kiosk):
     day = text[:10]
     kept = re.search(r"kept=(\S+)", text)[1]
     told = Told(folder, None, name="kiosk.log").expect(
-        0, f"Firing log of {day}", "First frame: 12:", "Last frame: 1", "Runs: 4\n", "Frames: 8\n", "Steps: 213\n",
+        0, f"Firing log of {day}", "First frame: 12:", "Last frame: 1", "Runs: 3\n", "Frames: 8\n", "Steps: 213\n",
         "Stops by the program: 1\n", "Ends that are not told: 1:", "Refusals: 1\n", "Faults: 1\n",
-        "answer 26, address 00F0300C", f"answer 13, counter 00F0300C, kept in {kept}", f"'gpu explain {folder / kept}'")
+        "answer 26, address 00F0300C", f"answer 13, counter 00F0300C, kept in {kept}", f"'./gpu explain {folder / kept}'")
     marks, _ = told.picture(folder / f"kiosk.log.{day}.svg")
     assert (marks["stop"], marks["refusal"], marks["fault"]) == (1, 1, 1) and marks["bar"] >= 1, marks
 
 
 def main():
     kiosk = Path(sys.argv[1] if len(sys.argv) > 1 else ROOT / "target" / "kiosk").resolve()
-    for test in days, damage, refused, limits:
+    for test in days, damage, missing_lines, refused, limits:
         with tempfile.TemporaryDirectory() as folder:
             test(Path(os.path.realpath(folder)))
     memory()

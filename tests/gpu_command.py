@@ -81,7 +81,9 @@ class Test:
             self.gpu("check", path).expect(1 if answer else 0, path.name, out=f"answer={answer}\naddress={address:08X}\n")
         words = (EXAMPLES / "ramp.words").read_text()
         bare = self.file("bare.words", words.replace("; length: 68 bytes\n", ""))
-        self.gpu("check", bare).expect(2, "does not state", "--length 68", out="")
+        self.gpu("check", bare).expect(2, "does not state", f"check {bare} --length 68'", out="")
+        image = self.file("bare.bin", self.image(bare))
+        self.gpu("check", image).expect(2, "does not state", "--length' and the number", out="")
         self.gpu("explain", bare, "--check").expect(2, "does not state", out="")
         self.gpu("check", bare, "--length", 68).expect(0, out="answer=0\naddress=00000000\n")
         self.gpu("check", EXAMPLES / "card.words", "--length", 12).expect(1, "states 16 bytes", out="answer=25\naddress=00F0300A\n")
@@ -97,6 +99,9 @@ class Test:
             path = self.file("stale.words", text)
             for verb in ("run", "check"):
                 self.gpu(verb, path).expect(2, f"stale.words, line {line}:", part, out="")
+        # A remark on another length is none, and @F03000 above the first word moves nothing.
+        for text in (words + "; length = 16 longs of ramp\n", words.replace("9802 FFA0", "@F03000\n9802 FFA0")):
+            self.gpu("check", self.file("good.words", text)).expect(0, "68 bytes of code")
         # Data that a line @ADDRESS sets apart is no code.
         self.gpu("check", self.file("data.words", "; length: 4\n" + ENDLESS + "@F03800\n1234 5678\n")).expect(0)
 
@@ -131,7 +136,10 @@ class Test:
             self.gpu(words[0], self.folder, *words[1:]).expect(2, "this is a folder", out="")
             self.gpu(words[0], "", *words[1:]).expect(2, out="")
         self.gpu("run", EXAMPLES / "ramp.wrds").expect(2, "is it " + str(EXAMPLES / "ramp.words"))
-        self.gpu("run", self.file("card.words", "answer=1\nsteps=3\n")).expect(2, "is a card and no program")
+        self.gpu("run", self.file("card.words", "answer=1\nsteps=3\n")).expect(2, "is a card or an answer of the check and no program")
+        self.gpu("run", self.file("log.txt", "2026-11-17T10:00:00.000+01:00\timage=x\n")).expect(2, "is a firing log")
+        told = self.gpu("run", self.file("wild.words", "\033[2J" + "x" * 100000)).expect(2)
+        assert len(told.err) < 400 and "\033" not in told.err, told.err[:400]
         if os.geteuid() != 0:
             locked = self.file("locked.words", good)
             locked.chmod(0)
@@ -146,9 +154,15 @@ class Test:
         self.gpu("check", EXAMPLES / "ramp.words", "--length", "x").expect(2, "'x' is not a number of bytes", out="")
         self.gpu("show", EXAMPLES / "ramp.words", "--trace", "0").expect(2, "from 1 to 100,000", out="")
         self.gpu("kiosk", "--frames", "5", "--endless").expect(2, "exclude each other", out="")
-        for words, part in ((["run", "examples/ramp.words"], "'examples/ramp.words' is no target"),
+        self.gpu("check", "--Length", "5").expect(2, "is it --length?", out="")
+        self.gpu("--version", "x").expect(2, "'x' is not understood", out="")
+        for words, part in ((["run", "examples/ramp.words"], "'examples/ramp.words' is not understood"),
                             (["run", "image=examples/ramp.words"], "'image' is no setting"),
-                            (["loadcheck", "Length=4"], "'Length' is no setting")):
+                            (["loadcheck", "Length=4"], "'Length' is no setting"),
+                            (["table", "IMAGE=x"], "'IMAGE' is no setting of table"),
+                            (["run", "FRAMES=3"], "'FRAMES' is no setting of run"),
+                            (["uninstall", "prefix=/nowhere"], "'prefix' is no setting of uninstall"),
+                            (["run", "IMAGE=a$(shell echo b)$c \"'.words"], "gpu run: a$(shell echo b)$c \"'.words: there is no such file")):
             done = subprocess.run(["make", "--no-print-directory", *words], cwd=ROOT, stdout=subprocess.PIPE, stderr=subprocess.PIPE)
             Done(["make", *words], done.returncode, done.stdout.decode(), done.stderr.decode()).expect(2, part, out="")
 
@@ -179,7 +193,8 @@ class Test:
         self.gpu("run").expect(0, "since no file was named", out=(EXAMPLES / "card.card").read_text())
 
     def image(self, path):
-        return subprocess.run([sys.executable, str(ROOT / "tools" / "image.py"), str(path)], stdout=subprocess.PIPE, check=True).stdout
+        return subprocess.run([sys.executable, str(ROOT / "tools" / "image.py"), str(path)], stdout=subprocess.PIPE,
+                              stderr=subprocess.DEVNULL, check=True).stdout
 
     def statuses(self):
         """0, 1 and 2, by the answer of the model."""
@@ -187,9 +202,13 @@ class Test:
             wanted = path.with_suffix(".card").read_text()
             answer = int(re.match(r"answer=(\d+)", wanted)[1])
             self.gpu("run", path).expect(1 if answer > 1 else 0, out=wanted)
+        # What can not be written is told; a reader who has gone is not.
+        for words, status in (["run >/dev/full", 2], ["show | head -1 >/dev/null; test ${PIPESTATUS[0]} -le 2", 0], ["run - <&-", 2]):
+            done = subprocess.run(["bash", "-c", f"{self.home}/gpu {words}"], stdout=subprocess.PIPE, stderr=subprocess.PIPE)
+            Done(["gpu", words], done.returncode, done.stdout.decode(), done.stderr.decode()).expect(status)
         self.gpu("help").expect(0, "in good order")
         self.gpu().expect(0, "gpu run")
-        for verb in ("run", "check", "explain", "show", "kiosk", "table", "log"):
+        for verb in ("run", "check", "explain", "show", "kiosk", "table", "log", "image"):
             self.gpu("help", verb).expect(0, f"usage: gpu {verb}")
             self.gpu(verb, "--help").expect(0, f"usage: gpu {verb}")
             self.gpu(verb, "x", "--nonsense").expect(2, "--nonsense", f"help {verb}", out="")
@@ -207,7 +226,9 @@ class Test:
         assert rows[4][2] == "STORE R3,(R2)" and rows[4][3].startswith("STORE R3,(R2)        the fault"), rows[4]
         assert rows[8][2] == "JR T,#-1 = F03018", rows[8]
         wrong = (EXAMPLES / "fault.words").read_text().replace("; MOVEQ #5,R3", "; MOVEQ #6,R3").replace("; ADDQ #2,R2", "; SUBQ #2,R2")
-        told = self.gpu("show", self.file("wrong.words", wrong)).expect(0, "2 comments do not fit").out
+        wrong = self.file("wrong.words", wrong)
+        told = self.gpu("show", wrong).expect(0, "2 comments do not fit their words").out
+        self.gpu("run", wrong).expect(1, f"2 comments do not fit their words: ", f"show {wrong}'", out=(EXAMPLES / "fault.card").read_text())
         assert "! F03006, line 8: the comment says MOVEQ #6,R3, and the word is MOVEQ #5,R3" in told, told
         assert "! F0300A, line 10: the comment says SUBQ #2,R2, and the word is ADDQ #2,R2" in told, told
         for path in sorted(EXAMPLES.glob("*.words")):
@@ -216,6 +237,15 @@ class Test:
             image = self.image(EXAMPLES / f"{name}.words")
             self.hold_memory(name, image)
             self.hold_trace(name, image, 150)
+        # Small letters, a label, a sentence, a comment over several lines, a label as an operand.
+        for word, comment, fits in (("8C00", "moveq #0,r0", True), ("8C00", "moveq #1,r0", False), ("8C00", "start: MOVEQ #2,R0", False),
+                                    ("8C00", "NOT an instruction but a sentence", True), ("8C00", "MOVEQ", True), ("8C00", "NOP", False),
+                                    ("D7E0", "JR T,start", True), ("D7E0", "JUMP T,start", False), ("FC00", "NOP", False)):
+            done = self.gpu("show", self.file("one.words", f"{word} ; {comment}\n")).expect(0)
+            assert ("\n! " in done.out) != fits, (comment, done.out)
+        self.gpu("show", self.file("three.words", "9801 ; MOVEI #1,R1\n0001 ; low\n0000 ; high\n")).expect(0, "MOVEI #1,R1 / low / high")
+        told = self.gpu("show", self.file("zeros.bin", self.image(EXAMPLES / "division.words"))).expect(0, "        ...\n", "--length").out
+        assert told.count("\n") < 70 and "F03802  0064" in told, told
         self.gpu("show", self.file("data.bin", bytes.fromhex("8C00FC00"))).expect(2)
         self.gpu("show", self.file("two.words", "8C00 FC00\n")).expect(0, "no instruction")
 
@@ -253,11 +283,22 @@ class Test:
         wanted = self.gpu("explain", "-", given=text.encode()).expect(0, "13: an address is not a multiple of four.").out
         for name, content in (("card", text), ("crlf.txt", text.replace("\n", "\r\n")), ("end.card", text.rstrip("\n")),
                               ("above.card", "$ gpu run examples/fault.words\ngpu run: a program file\n\n" + text),
-                              ("below.card", text + "\n\n"), ("mark.card", "\ufeff" + text), ("spaces.card", text.replace("\n", "  \n"))):
+                              ("below.card", text + "\n\n"), ("mark.card", "\ufeff" + text), ("spaces.card", text.replace("\n", "  \n")),
+                              ("indented.card", "  " + text.replace("\n", "\n  ")), ("prompt.card", text + "$ \n")):
             self.gpu("explain", self.file(name, content)).expect(0, out=wanted)
+        # What a person sees of a refused run, with what gpu says above and below the card, is explained.
+        for verb, first in (("run", "13: "), ("check", "26: ")):
+            seen = self.gpu(verb, EXAMPLES / "fault.words")
+            told, below = seen.err.split("\n", 1)
+            told = self.gpu("explain", self.file("seen.txt", f"{told}\n{seen.out}{below}make: *** [Makefile:60: run] Error 1\n")).expect(0)
+            assert told.out.startswith(first), told.out
         # A line of the card that is missing is still seen to be.
         self.gpu("explain", self.file("cut.card", text.replace("pc=00F0300C\n", ""))).expect(2, "line 3 is missing")
+        self.gpu("explain", self.file("more.card", text + "extra=1\n")).expect(2, "line 7 is missing, is damaged, or should not be there")
+        self.gpu("explain", "-", given=b"answer=99\naddress=00000000\n").expect(2, "This number is not known here.")
         self.gpu("explain", "-", given=b"hello\n").expect(2, "This is no card.")
+        self.gpu("explain", "14", "--check").expect(2, "--check means nothing here", out="")
+        self.gpu("explain", self.folder / "card", "--of", EXAMPLES / "ramp.words").expect(2, "prints another card", out="")
         path = EXAMPLES / "fault.words"
         number = path.read_text().split("\n").index("BC43            ; STORE R3,(R2)        the fault") + 1
         quoted = f"In {path}, line {number}: BC43            ; STORE R3,(R2)        the fault\n"
@@ -273,7 +314,18 @@ class Test:
         told = self.gpu("show", saved).expect(0, "counter 00F0300C", "00F03802").out
         assert "\n>F0300C  BC43            STORE R3,(R2)" in told, told
         self.gpu("show", saved, "--memory").expect(0, "00000005")
-        self.gpu("run", saved).expect(2, "is a saved machine", out="")
+        for verb in ("run", "check", "kiosk"):
+            self.gpu(verb, saved).expect(2, "is a saved machine", out="")
+        self.gpu("explain", saved, "--check").expect(2, "is a saved machine", out="")
+        # One that runs, one that has stopped, and one whose state is damaged.
+        running = self.file("running.saved", image + block_of(START))
+        self.gpu("explain", running).expect(0, "saved while it ran", "at address 00F03000: MOVEI")
+        stopped = self.file("stopped.saved", image + block_of(START._replace(running=False)))
+        self.gpu("explain", stopped).expect(0, "1: the program has stopped.")
+        damaged = self.file("damaged.saved", image + block_of(START)[:-4] + b"\x80\x01\0\0")
+        self.gpu("explain", damaged).expect(0, "34: the saved state is not valid.")
+        self.gpu("show", damaged, "--trace", 3).expect(2, "the saved state was refused")
+        self.gpu("show", path, "--memory").expect(1)
 
     def goes_on(self):
         """A display without an end, as the guide starts it: a line for each frame, until a person ends it; then the day's sum."""
@@ -299,6 +351,14 @@ class Test:
             assert fields["image"] == "drum.words" and fields["crc32"] == f"{zlib.crc32(self.image(EXAMPLES / 'drum.words')):08X}"
         self.gpu("log", log).expect(0, "drum.words", f"{len(frames)} frames")
         assert list(self.folder.glob("firing.log*.svg")), "gpu log draws no picture"
+
+    def images(self):
+        """gpu image writes what the model's reader would: the words high byte first, the rest zero."""
+        words = "; length: 4\n" + ENDLESS + "@F03FFE\nBEEF\n"
+        out = self.folder / "made.bin"
+        self.gpu("image", self.file("made.words", words), "-o", out).expect(0, "4 bytes of code", out="")
+        assert out.read_bytes() == bytes.fromhex("D7E0E400") + bytes(RAM - 6) + bytes.fromhex("BEEF")
+        self.gpu("image", "made.words", "-o", self.folder / "no" / "where").expect(2, "can not be written", out="")
 
     def noise(self):
         """Whatever a file holds, each verb says a sentence or does its work."""
@@ -340,7 +400,8 @@ def main():
     home = Path(sys.argv[1] if len(sys.argv) > 1 else ROOT / "target" / "release" / f"gpu-{version}").resolve()
     with tempfile.TemporaryDirectory() as folder:
         test = Test(home, Path(folder))
-        for part in (test.lengths, test.unreadable, test.stray_words, test.kinds, test.statuses, test.shows, test.explains, test.goes_on, test.noise):
+        for part in (test.lengths, test.unreadable, test.stray_words, test.kinds, test.statuses, test.shows, test.explains, test.images, test.goes_on,
+                     test.noise):
             part()
     print(f"gpu: {test.count} commands do what they should, or say why not")
 

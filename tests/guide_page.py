@@ -13,10 +13,6 @@ import textwrap
 from pathlib import Path
 
 ROOT = Path(__file__).resolve().parent.parent
-# Those that a display must not refuse may end so: in good order, or with the refusal that the page is about.
-STATUSES = {0, 1}
-
-
 def shown(text):
     """The commands of the page, each with the lines that should be seen."""
     for body in re.findall(r"^ *```\n(.*?)^ *```$", text, re.MULTILINE | re.DOTALL):
@@ -45,7 +41,9 @@ def hold(command, lines, folder):
         rest, seen = seen[len(lines):], seen[:len(lines)]
         if not rest:
             sys.exit(f"guide: {command} prints nothing where the page has three dots")
-    if seen != lines or done.returncode not in STATUSES:
+    # The page shows a refusal where the answer is one; every other command ends in good order.
+    refused = any(re.fullmatch(r"answer=(?![01]$)\d+", line) for line in lines)
+    if seen != lines or done.returncode != int(refused):
         sys.exit(f"guide: {command} ends with {done.returncode} and prints\n" + "\n".join(seen) + "\nand the page shows\n"
                  + "\n".join(lines))
 

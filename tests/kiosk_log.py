@@ -4,6 +4,7 @@ docs/KIOSK.md.
     python3 tests/kiosk_log.py [KIOSK]      by default target/kiosk
 """
 
+import argparse
 import fcntl
 import os
 import pty
@@ -17,6 +18,7 @@ import tempfile
 import termios
 import time
 import zlib
+from contextlib import suppress
 from datetime import datetime, timedelta
 from pathlib import Path
 
@@ -24,7 +26,8 @@ ROOT = Path(__file__).resolve().parent.parent
 VERSION = (ROOT / "VERSION").read_text("ascii").strip()
 sys.path.insert(0, str(ROOT / "tools"))
 
-from image import image_of, read_image
+from images import image_of, read_image
+from kiosk import picture
 from kiosk_page import block_of
 from machine import RAM_BASE, START, run
 
@@ -38,7 +41,7 @@ ENDLESS = image_of("D7E0 E400")
 BRIGHT_THEN_FAULTY = image_of("9802 3800 00F0 9803 00FF 0000 BC43 FC00")
 
 CHECKED = "The program was checked: it runs without a fault and keeps its code.\n"
-UNCHECKED = "The program was not checked. Give the length of its code to have it checked.\n"
+UNCHECKED = "The program was not checked. Give its length (--length N, or N behind the image) to have it checked.\n"
 # What docs/KIOSK.md says of the picture: a blank for 0 to 51, and so on.
 SHADES = {51: " ", 102: "░", 153: "▒", 204: "▓", 255: "█"}
 
@@ -48,6 +51,9 @@ LINE = re.compile(r"(\d{4}-\d\d-\d\dT\d\d:\d\d:\d\d\.\d{3}[+-]\d\d:\d\d)\timage=
 
 # Far longer than anything here takes, so that a kiosk that hangs fails the test.
 PATIENCE = 30
+
+# F_SETPIPE_SZ of Linux, which fcntl has only from python 3.10 on.
+SET_PIPE_SIZE = 1031
 
 
 class Failed(Exception):
@@ -155,12 +161,15 @@ def ramp(kiosk):
     """Each frame's line and picture are the model's, and the picture stands above its line."""
     told = list(frames(RAMP, 50))
     for window, place in (("F03800:16x1", (0xF03800, 16, 1, 4)), ("F03800:4x4", (0xF03800, 4, 4, 4)),
-                          ("F03800:64x1:byte", (0xF03800, 64, 1, 1)), ("f03000:32x128:byte", (0xF03000, 32, 128, 1))):
+                          ("F03800:64x1:byte", (0xF03800, 64, 1, 1)), ("f03000:32x128:byte", (0xF03000, 32, 128, 1)),
+                          ("0xF03800:16X1", (0xF03800, 16, 1, 4)), ("$F03800:64X1:byte", (0xF03800, 64, 1, 1))):
         kiosk.fresh(RAMP)
         out, _ = kiosk.run(0, "--log", "firing.log", "--name", "ramp.words", "--steps", 50, "--picture", window, "image.bin",
                            RAMP_LENGTH)
         wanted = CHECKED + "".join(shown(ram, *place) + frame_line(each) for each, ram, _ in told)
-        hold(out.startswith(wanted + "The program stopped itself.\n"), f"the picture {window} is\n{out}and not\n{wanted}")
+        wanted += ("The program stopped itself.\n"
+                   f"answer 1 after 188 steps, in frame 4\nimage ramp.words, checksum {zlib.crc32(RAMP):08X}\n")
+        hold(out.startswith(wanted), f"the picture {window} is\n{out}and not\n{wanted}")
         hold(kiosk.entries(RAMP, "ramp.words") == lines_of(told), "the log of the ramp is not the model's")
 
 
@@ -204,11 +213,11 @@ def dates(kiosk):
     """The time is that of the zone, and of the run."""
     kiosk.fresh(CARD)
     before = datetime.now().astimezone() - timedelta(milliseconds=1)
-    kiosk.run(0, "--log", "firing.log", "image.bin", env=os.environ | {"TZ": "ABC-5:30"})
+    kiosk.run(0, "--log", "firing.log", "image.bin", env={**os.environ, "TZ": "ABC-5:30"})
     after = datetime.now().astimezone()
     text = kiosk.log.read_text().split("\t")[0]
     hold(text.endswith("+05:30") and before <= datetime.fromisoformat(text) <= after, f"{text} is not the time")
-    kiosk.run(0, "--log", "firing.log", "image.bin", env=os.environ | {"TZ": "ABC+3"})
+    kiosk.run(0, "--log", "firing.log", "image.bin", env={**os.environ, "TZ": "ABC+3"})
     hold(kiosk.log.read_text().splitlines()[1].split("\t")[0].endswith("-03:00"), "the zone of a run in the west is wrong")
 
 
@@ -232,7 +241,7 @@ def faults(kiosk):
         hold(lines == lines_of(whole) and tuple(ended) == last and key == "kept", "the log of a fault is not the model's")
         hold((kiosk.folder / kept).read_bytes() == ram + block_of(state), "what was kept is not as before the faulty step")
         hold(re.fullmatch(r"firing\.log\.\d{8}-\d{6}\.saved", kept), f"{kept} is no name for what was kept")
-        hold(f"gpu explain {kiosk.folder / kept}\n" in out and not err, out)
+        hold(f"explained: gpu explain {kiosk.folder / kept}\n" in out and not err, out)
         wanted = "".join((shown(ram, 0xF03800, 1, 1) if window else "") + frame_line(each) for each, ram, _ in whole)
         wanted += shown(ram, 0xF03800, 1, 1) if window else ""
         hold(out.startswith(UNCHECKED + wanted + "The program "), f"a fault is shown as\n{out}and not as\n{wanted}")
@@ -264,6 +273,24 @@ def kept_files(kiosk):
     kiosk.fresh(FAULTY)
     kiosk.run(1, "image.bin")
     hold(os.listdir(kiosk.folder) == ["image.bin"], "a fault was kept without a log")
+
+
+def explanations(kiosk):
+    """The command that is told for an explanation works as it is typed, and is that of the caller where nothing is kept."""
+    words = ["--gpu", "printf '%s\\n'", "--explain", "gpu explain x.words"]
+    for name in ("firing.log", "a b.log", "it's.log", "$HOME;(&).log", "ä.log"):
+        kiosk.fresh(FAULTY)
+        out, _ = kiosk.run(1, "--log", name, *words, "image.bin")
+        command = re.search(r"^Memory and registers are kept in a file\. To have it explained: (.+)$", out, re.MULTILINE)[1]
+        typed = subprocess.run(command, shell=True, stdout=subprocess.PIPE, check=True).stdout.decode().splitlines()
+        kept = [path.name for path in kiosk.folder.glob("*.saved")]
+        hold(typed == ["explain", *kept] and len(kept) == 1, f"{command} is typed for {kept}")
+        hold("gpu explain x.words" not in out, out)
+    for status, *more in (1, "image.bin"), (2, "image.bin", 28):
+        out, _ = kiosk.run(status, *words, *more)
+        hold("\nTo have it explained: gpu explain x.words\n" in out and out.count("explained") == 1, out)
+        hold(f"\nimage image.bin, checksum {zlib.crc32(FAULTY):08X}\n" in out, out)
+        hold("explained" not in kiosk.run(status, *more)[0], "a command is told that nobody gave")
 
 
 def refusals(kiosk):
@@ -362,7 +389,7 @@ def screen_before_log(kiosk):
     """A screen that takes no more holds the kiosk in the middle of a frame: no line of that frame is in the log."""
     kiosk.fresh(ENDLESS)
     reading, writing = os.pipe()
-    fcntl.fcntl(writing, fcntl.F_SETPIPE_SZ, 4096)
+    fcntl.fcntl(writing, SET_PIPE_SIZE, 4096)
     process = kiosk.start("--log", "firing.log", "--endless", "--picture", "F03000:16x4", "image.bin", 4, stdout=writing)
     os.close(writing)
     end_where_it_stands(process, reading)
@@ -370,12 +397,46 @@ def screen_before_log(kiosk):
         hold_order(len(kiosk.entries(ENDLESS)), screen.read().count(b"frame "))
 
 
+def signals_on_a_full_screen(kiosk):
+    """A signal while the screen takes no more: the frame is logged when it is shown, and never before. A second signal ends
+    the kiosk at once, but for one directly behind the first, as timeout and a terminal that is closed send it."""
+    for sent, pause, waits in (([signal.SIGTERM], 0.1, True), ([signal.SIGINT], 0.1, True),
+                               ([signal.SIGTERM, signal.SIGTERM], 0.02, True), ([signal.SIGHUP, signal.SIGTERM], 0.02, True),
+                               ([signal.SIGTERM, signal.SIGTERM], 0.3, False), ([signal.SIGHUP, signal.SIGINT], 0.3, False)):
+        kiosk.fresh(ENDLESS)
+        reading, writing = os.pipe()
+        fcntl.fcntl(writing, SET_PIPE_SIZE, 4096)
+        process = kiosk.start("--log", "firing.log", "--endless", "--picture", "F03000:16x4", "image.bin", 4, stdout=writing)
+        os.close(writing)
+        stand_still(reading)
+        before = kiosk.log.read_bytes()
+        for each in sent:
+            process.send_signal(each)
+            time.sleep(pause)
+        hold(kiosk.log.read_bytes() == before, f"{sent}: a line was written of a frame that was not shown")
+        hold((process.poll() is None) == waits, f"{sent}: the kiosk ended with {process.poll()}")
+        with open(reading, "rb") as screen:
+            out = screen.read()
+        err = process.communicate(timeout=PATIENCE)[1]
+        found = kiosk.entries(ENDLESS)
+        painted = out.count(b"frame ") - out.count(b"in frame ")
+        if waits:
+            hold(process.returncode == 0 and not err, f"{sent}: ended with {process.returncode}: {err}")
+            hold(found[-1][-2:] == ("ended", sent[0].name) and b"A person ended it." in out, f"{sent}: {found[-1]}")
+            # The frame under way is the last, and both have it.
+            hold(found[-1][0] == found[-2][0] == len(found) - 1 == painted, f"{sent}: {painted} frames, {len(found)} lines")
+        else:
+            hold(process.returncode == -sent[-1], f"{sent}: ended with {process.returncode}")
+            hold(all(each[-2] is None for each in found), f"{sent}: {found[-1]}")
+            hold_order(len(found), painted)
+
+
 def log_before_next_call(kiosk):
     """A log that takes no more holds the kiosk behind the painting of a frame: no further frame has been run."""
     kiosk.fresh(ENDLESS)
     os.mkfifo(kiosk.log)
     reading = os.open(kiosk.log, os.O_RDONLY | os.O_NONBLOCK)
-    fcntl.fcntl(reading, fcntl.F_SETPIPE_SZ, 4096)
+    fcntl.fcntl(reading, SET_PIPE_SIZE, 4096)
     screen = kiosk.folder / "screen"
     with open(screen, "wb") as out:
         process = kiosk.start("--log", "firing.log", "--endless", "--picture", "F03000:16x4", "image.bin", 4, stdout=out)
@@ -445,6 +506,17 @@ def cut_off(kiosk):
         hold(entries(after[len(before):], CARD, "image.bin") == told, f"behind {before!r} stands {after!r}")
 
 
+def all_of(keyboard):
+    """What came to a terminal that nobody writes to any more; it may come in several pieces."""
+    out = b""
+    with open(keyboard, "rb", 0) as file:
+        # The end is told as an error.
+        with suppress(OSError):
+            while piece := file.read(1 << 16):
+                out += piece
+    return out
+
+
 def terminals(kiosk):
     """On a terminal a frame is painted over the one before. A terminal that is too small is refused."""
     for rows, columns, fits in ((24, 80, True), (3, 33, True), (2, 80, False), (24, 32, False), (0, 0, True)):
@@ -453,9 +525,8 @@ def terminals(kiosk):
         fcntl.ioctl(terminal, termios.TIOCSWINSZ, struct.pack("HHHH", rows, columns, 0, 0))
         _, err = kiosk.run(0 if fits else 2, "--steps", 50, "--picture", "F03800:16x1", "image.bin", RAMP_LENGTH,
                            stdout=terminal)
-        out = b"" if not fits else os.read(keyboard, 1 << 16)
         os.close(terminal)
-        os.close(keyboard)
+        out = all_of(keyboard)
         wanted = "".join("\x1b[H" + shown(ram, 0xF03800, 16, 1)[:-1] + "\x1b[K\n\x1b[J" + frame_line(told)
                          for told, ram, _ in frames(RAMP, 50))
         if fits:
@@ -466,8 +537,8 @@ def terminals(kiosk):
 
 # Words of the command line that are wrong, and what is said of them.
 NUMBER = "give a number from 1 to "
-FORM, OUTSIDE = "write ADDRESS:WIDTHxHEIGHT", "the window is not wholly in RAM"
-NOT_ALIGNED = "a window of longs must begin at a multiple of 4"
+FORM, OUTSIDE = "write ADDRESS:WIDTHxHEIGHT", "the picture is not wholly in RAM"
+NOT_ALIGNED = "a picture of longs must begin at a multiple of 4"
 WRONG = [
     ("", "IMAGE: no image is named"), ("--endless", "IMAGE: no image is named"),
     ("--fps", "--fps: the word behind it is missing"), ("--speed 5 image.bin", "--speed: there is no such option"),
@@ -485,9 +556,10 @@ WRONG = [
     ("--log  image.bin", "--log: the name of the file is missing"),
     ("--picture F03800:0x4 image.bin", "--picture F03800:0x4: the width and the height must be 1 or more"),
     *((f"--picture {word} image.bin", f"--picture {word}: {what}") for what, words in (
-        (FORM, "F03800 F03800:16 F03800:16x F03800:16x1: F03800:16x1:long F03800:16x1:bytes F03800:-1x1 F03800:1X1 "
-               "0xF03800:1x1 F03800h:1x1 123456789:1x1 :1x1"),
-        (OUTSIDE, "F02FFC:1x1 F03FFF:2x1:byte F03800:16x33 F04000:1x1 0:1x1 FFFFFFFF:1x1:byte F03000:99999999x99999999"),
+        (FORM, "F03800 F03800:16 F03800:16x F03800:16x1: F03800:16x1:long F03800:16x1:bytes F03800:-1x1 F03800:1*1 "
+               "0xF03800 $:1x1 0x:1x1 $0xF03800:1x1 F03800:1xX1 F03800h:1x1 123456789:1x1 :1x1"),
+        (OUTSIDE, "F02FFC:1x1 0xF04000:1x1 $3000:1X1 F03FFF:2x1:byte F03800:16x33 F04000:1x1 0:1x1 "
+                  "FFFFFFFF:1x1:byte F03000:99999999x99999999"),
         (NOT_ALIGNED, "F03801:1x1 F03802:1x1")) for word in words.split()),
 ]
 
@@ -498,10 +570,18 @@ def wrong_words(kiosk):
     for command, what in WRONG:
         out, err = kiosk.run(2, *command.split(" ")) if command else kiosk.run(2)
         hold(out == "" and err.startswith(f"kiosk: {what}") and "\nusage: kiosk " in err, f"'{command}': {out}{err}")
+        # gpu kiosk says the same of a picture, before it starts the program.
+        if command.startswith("--picture "):
+            window = command.split(" ")[1]
+            try:
+                picture(window)
+                hold(False, f"gpu kiosk takes {window}")
+            except argparse.ArgumentTypeError as refusal:
+                hold(f"kiosk: --picture {window}{str(refusal)[len(window) + 2:]}\n" in err, f"{refusal}, and {err}")
     hold(os.listdir(kiosk.folder) == ["image.bin"], "a wrong command has written a file")
     hold(kiosk.run(0, "--help")[0].startswith("usage: kiosk "), "--help does not tell the usage")
-    for window in ("F03FFC:1x1", "F03FFF:1x1:byte", "F03000:32x32", "F03000:64x64:byte"):
-        kiosk.run(0, "--picture", window, "image.bin")
+    for window in ("F03FFC:1x1", "F03FFF:1x1:byte", "F03000:32x32", "0xF03000:64x64:byte", "0Xf03ffc:1X1", "$F03FFC:1x1"):
+        kiosk.run(0, "--picture", picture(window), "image.bin")
 
 
 def main():
@@ -511,8 +591,9 @@ def main():
         sys.exit("kiosk log: include/gpu.h has another version than the file VERSION")
     with tempfile.TemporaryDirectory() as folder:
         kiosk = Kiosk(program, Path(folder))
-        for test in (ramp, shades, page, without_options, dates, several_runs, faults, kept_files, refusals, signals, pacing,
-                     screen_before_log, log_before_next_call, unwritable, no_screen, cut_off, terminals, wrong_words):
+        for test in (ramp, shades, page, without_options, dates, several_runs, faults, kept_files, explanations, refusals,
+                     signals, pacing, screen_before_log, signals_on_a_full_screen, log_before_next_call, unwritable,
+                     no_screen, cut_off, terminals, wrong_words):
             try:
                 test(kiosk)
             except Failed as what:

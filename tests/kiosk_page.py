@@ -18,7 +18,7 @@ PAGE = ROOT / "docs" / "KIOSK.md"
 ARCHIVE = "target/staticlib/libkiosk.a"
 sys.path.insert(0, str(ROOT / "tools"))
 
-from image import read_image
+from images import read_image
 from machine import START, run
 
 # As the page's program has them.

@@ -16,7 +16,7 @@ from pathlib import Path
 ROOT = Path(__file__).resolve().parent.parent
 sys.path.insert(0, str(ROOT / "tools"))
 
-from image import image_of
+from images import image_of
 
 # 01, "Numbers that come back": a run ends so, the check answers so, and a call is refused so.
 RUN = [0, 1, 11, 12, 13, 14, 15]

@@ -23,7 +23,7 @@ for name in ("MAKEFLAGS", "MFLAGS", "MAKELEVEL"):
 RELEASES = ROOT / "target" / "release"
 
 # What a plain system has: enough for the command, and for the script that installs it.
-PLAIN = ["sh", "env", "cat", "cp", "ln", "ls", "mkdir", "rm", "rmdir", "dirname", "sha256sum"]
+PLAIN = ["sh", "env", "cat", "cp", "find", "ln", "ls", "mkdir", "rm", "rmdir", "dirname", "sha256sum", "sort"]
 # And what a person needs who compiles a C program.
 COMPILER = ["gcc", "as", "ld", "readelf"]
 
@@ -119,9 +119,8 @@ def compile_against(prefix, path, folder, version):
     source = prefix / "lib" / "gpu" / "examples" / "kiosk.c"
     found = flags(prefix, path)
     shared, static, told = folder / "shared", folder / "static", folder / "version"
-    run(["gcc", "-std=c11", "-O2", source, *found, f"-Wl,-rpath,{prefix}/lib", "-o", shared], path)
-    run(["gcc", "-std=c11", "-O2", source, *[word for word in found if word != "-lgpu"], prefix / "lib" / "libgpu.a", "-o", static],
-        path)
+    run(["gcc", "-std=c11", "-O2", source, *found, "-o", shared], path)
+    run(["gcc", "-std=c11", "-O2", f"-I{prefix}/include", source, prefix / "lib" / "libgpu.a", "-o", static], path)
     needs = {program: "[libgpu.so.0]" in run(["readelf", "-d", program], path) for program in (shared, static)}
     if needs != {shared: True, static: False}:
         fail(f"libgpu.so.0 is needed by {needs}")
@@ -141,16 +140,41 @@ def install_and_remove(release, folder, plain, compiler, version):
     prefix = folder / "prefix"
     env = dict(plain, PREFIX=str(prefix))
     run(["./install", "--remove"], env, release, status=2)
+    run(["./install", "--nonsense"], env, release, status=2)
+    run(["./install"], dict(env, PREFIX=str(release / "in")), release, status=2)
+    # What is another's is neither overwritten nor taken away.
+    (prefix / "bin").mkdir(parents=True)
+    (prefix / "bin" / "gpu").write_text("another's")
+    run(["./install"], env, release, status=2)
+    (prefix / "bin" / "gpu").rename(prefix / "bin" / "other")
     run(["./install"], env, release)
     run(["./install"], env, release)  # over an earlier one
+    note = prefix / "lib" / "gpu" / "note"
+    note.write_text("mine")
     shutil.rmtree(release)
     card = run([prefix / "bin" / "gpu", "run", prefix / "lib" / "gpu" / "examples" / "ramp.words"], plain, folder)
     if "acc=0000087B" not in card:
         fail(f"the installed command prints\n{card}")
     compile_against(prefix, compiler, folder, version)
-    run([prefix / "lib" / "gpu" / "install", "--remove"], env, folder)
-    if prefix.exists() and any(prefix.iterdir()):
-        fail(f"removing leaves {[str(path) for path in prefix.rglob('*')][:5]}")
+    (prefix / "lib" / "gpu" / "install").rename(folder / "install")
+    run([folder / "install", "--remove"], env, folder)
+    left = sorted(str(path.relative_to(prefix)) for path in prefix.rglob("*") if not path.is_dir())
+    if left != ["bin/other", "lib/gpu/note"]:
+        fail(f"removing leaves {left[:5]}")
+
+
+def oldest_python(release, folder):
+    """The command on the oldest Python that README.md names, where there is one."""
+    oldest = re.search(r"python3 (3\.\d+) or later", (ROOT / "README.md").read_text())[1]
+    found = shutil.which(f"python{oldest}")
+    if found is None or subprocess.run([found, "--version"], stdout=subprocess.DEVNULL, stderr=subprocess.DEVNULL).returncode:
+        print(f"release: SKIPPED: python{oldest} is not installed, so the command is not tried on it")
+        return
+    (folder / "t.csv").write_text('instruction,s,d,expect result\n"ADD R1,R2",1,2,3\n')
+    for words in (["help"], ["run"], ["check"], ["show", "--trace", "3"], ["explain", "14"], ["kiosk"],
+                  ["kiosk", "--log", folder / "log"], ["log", folder / "log"], ["image", release / "examples" / "ramp.words", "-o", folder / "i"],
+                  ["table", folder / "t.csv", "--page", folder / "t.html"]):
+        run([found, "-B", release / "gpu", *words], cwd=folder)
 
 
 def make_install(folder):
@@ -178,6 +202,7 @@ def main():
         check_sums(release)
         plain, compiler = commands(folder / "plain", PLAIN), commands(folder / "compiler", PLAIN + COMPILER)
         use(release, plain)
+        oldest_python(release, folder)
         install_and_remove(release, folder, plain, compiler, version)
         make_install(folder)
     print(f"release: version {version} runs without prover and compiler, is installed, compiled against and removed")

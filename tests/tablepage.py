@@ -110,6 +110,7 @@ def states_and_blocks():
     assert page.fact("Options") == "--hex" and page.fact("Compared") == "25 cells", page.fact("Compared")
     for state in ("✗ 2 rows differ", "! 3 rows not run", "◐ 6 rows in part", "✓ 2 rows agree"):
         assert f"<b>{state}</b>" in told.page, state
+    assert "not run</b> <small>A cell can not be used, or is missing.</small>" in told.page
 
 
 def verdicts():
@@ -118,9 +119,10 @@ def verdicts():
     for rows, status, verdict in (
         (agrees, 0, "The one row agrees."),
         (differs, 1, "The one row differs."),
+        ('"NEG R2",,1,,,,,\n', 2, "The one row could not be run."),
         ("", 2, "No row was run: the table has none below its names."),
-        (unread, 2, "No row was run: the only one can not be read."),
-        (unread * 2, 2, "No row was run: none of the 2 can be read."),
+        (unread, 2, "The one row could not be run."),
+        (unread * 2, 2, "None of the 2 rows could be run."),
         (agrees * 2 + in_part, 0, "All 3 rows agree; 1 of them compares only a part."),
         (agrees + in_part * 2 + unread, 2, "1 of 4 rows could not be run. The other 3 agree; 2 of them compare only a part."),
         (agrees + differs, 1, "1 of 2 rows differs."),
@@ -156,6 +158,12 @@ def no_old_page_stays():
             done = subprocess.run([*SCRIPT, str(page), "--page", f"{folder}/./{name}"], stdout=subprocess.PIPE,
                                   stderr=subprocess.PIPE)
             assert done.returncode == 2 and sentence in done.stderr and page.read_text() == HEADER + GOOD, done
+        # A folder of that name stays, and nothing is left beside it.
+        taken = Path(folder) / "taken.html"
+        taken.mkdir()
+        done = subprocess.run([*SCRIPT, str(page), "--page", str(taken)], stdout=subprocess.PIPE, stderr=subprocess.PIPE)
+        assert (done.returncode, done.stdout) == (2, b"") and b"taken.html: the page can not be written there" in done.stderr
+        assert sorted(each.name for each in Path(folder).iterdir()) == ["table.csv", "table.html", "taken.html"]
         # A run that is broken off while it waits for its table.
         with subprocess.Popen([*SCRIPT, "-", "--page", str(page)], stdin=subprocess.PIPE, stdout=subprocess.PIPE,
                               stderr=subprocess.PIPE) as running:

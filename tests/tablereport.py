@@ -9,10 +9,12 @@ DOCUMENT = (ROOT / "docs" / "INSTRUCTIONS.md").read_text("utf-8")
 
 
 def examples_of_the_document():
-    """The tables that docs/INSTRUCTIONS.md shows, whose rows all compare all, and the report that it shows."""
-    blocks = [block.replace("\n    ", "\n").strip() for block in DOCUMENT.split("\n\n") if block.startswith("    ")]
-    tables = [block + "\n" for block in blocks if block.startswith("instruction,")]
-    assert len(tables) == 2, tables
+    """The tables that docs/INSTRUCTIONS.md shows, whose rows all compare all, also with the blanks that they have there; and
+    the report that it shows."""
+    shown = [block for block in DOCUMENT.split("\n\n") if block.startswith("    ")]
+    blocks = [block.replace("\n    ", "\n").strip() for block in shown]
+    tables = [block + "\n" for block in shown + blocks if block.lstrip().startswith("instruction,")]
+    assert len(tables) == 4, tables
     for table in tables:
         rows = table.count("\n") - 1
         Told(table).expect(0, f"{rows} row{'s' if rows > 1 else ''} run: {rows} agreed, 0 differed")
@@ -94,14 +96,15 @@ def parts_are_told():
 # What is told of a row that differs.
 
 def sentences_are_told():
-    """A row of each opcode that differs is told with its own note and with the sentence that the document has for it."""
+    """A row of each opcode that differs is told with its own note and with the sentence that the document has for it. A fault
+    of a built one is decided by other sentences."""
     names, *rows = base_rows()
-    wrong, counter = {}, names.index("expect counter")
+    wrong, counter, answer = {}, names.index("expect counter"), names.index("expect answer")
     for row in rows:
         text = row[names.index("instruction")]
         word = int(text.split()[0], 16) if text.startswith("0x") else mnemonics.words_of(text, 0xF03000)[0]
         opcode = word >> 10
-        if opcode not in wrong and row[counter]:
+        if opcode not in wrong and row[counter] and (opcode not in ROWS or row[answer] in ("", "0", "1")):
             wrong[opcode] = [*row[:counter], 3, *row[counter + 1:]]
     told = Told(as_csv([names, *wrong.values()]), "--quiet").expect(1, f"{len(wrong)} of {len(wrong)} rows differ.")
     lines = ([cell.strip() for cell in line.split("|")] for line in DOCUMENT.split("\n"))
@@ -119,7 +122,6 @@ def further_sentences():
     columns = "remark,instruction,s,d,pending,comment,expect result,expect Z,expect C,expect counter,expect answer"
     chip = grounds.CHIP_REGISTERS
     cases = (
-        ({"instruction": "LOAD (R1),R2", "s": "0xF03801", "expect result": 0}, "expected no fault, got 13 (address not a mul"),
         ({"instruction": "NOP", "expect answer": 15}, "15 (JR, JUMP, MOVEI or MOVE PC while a jump is pending), got 0"),
         ({"instruction": "AND R1,R2", "expect Z": 0}, grounds.FLAGS_FOLLOW),
         ({"instruction": "SHRQ #1,R2", "d": 1, "expect C": 0}, grounds.SHIFTED_OUT),
@@ -130,7 +132,6 @@ def further_sentences():
         ({"instruction": "0x2022", "d": 1, "expect result": -1}, grounds.FIELD_NOT_ZERO),
         ({"instruction": "ADD R1,R2", "remark": "mine", "comment": "and\nmine", "expect result": 5}, "note: mine; and mine\n"),
         ({"instruction": "ADD R1", "remark": "not run", "expect result": 5}, "note: not run\n"),
-        ({"instruction": "ADD R1", "expect result": 5}, '01: "ADD, ADDC, ADDQ: C is carry out."'),
     )
     rows = Told(table_of(columns, [row for row, _ in cases])).expect(2).rows()
     for number, (_, part) in enumerate(cases, 2):
@@ -140,12 +141,50 @@ def further_sentences():
     assert told.text.count("01: ") == 1, told.text
 
 
+def faults_sentences():
+    """Where the answer differs, the sentences of its numbers are told, and the instruction's own only if it has written
+    something. A row that is not run has none."""
+    columns = ("instruction,counter,s,d,pending,running,expect result,expect counter,expect pending,expect answer,"
+               "expect steps")
+    fault = {number: f'"{meaning}"' for number, meaning in comparison.ANSWERS.items()}
+    own = '"LOAD, STORE: address in a register"; "no flag. Only longs."'
+    load = {"instruction": "LOAD (R1),R2", "s": "0xF03800"}
+    cases = (
+        ({**load, "s": "0xF03801", "expect result": 0}, [fault[13]]),
+        ({"instruction": "STORE R2,(R1)", "s": "0xF04000", "expect steps": 1}, [fault[14], grounds.A_FAULT]),
+        ({"instruction": "STORE R2,(R14+1)", "expect result": 5}, [fault[14], grounds.AS_BEFORE]),
+        ({"instruction": "NOP", "counter": "0xF04000", "expect counter": "0xF04002"}, [fault[12], grounds.AS_BEFORE]),
+        ({"instruction": "0x9801", "counter": "0xF03FFE", "expect answer": 0}, [fault[12]]),
+        ({"instruction": "MOVE PC,R2", "pending": "0xF03800", "expect answer": 0}, [fault[15]]),
+        ({"instruction": "JR NZ,#1", "pending": "0xF03800", "expect pending": "none"}, [fault[15], grounds.AS_BEFORE]),
+        ({**load, "s": "0xF04001", "expect answer": 14}, [fault[14], fault[13], grounds.ORDER]),
+        ({**load, "expect answer": 13}, [fault[13]]),
+        ({**load, "expect answer": 99}, [grounds.NO_SUCH_FAULT]),
+        ({**load, "expect answer": 13, "expect result": 5}, [fault[13], own]),
+        ({"instruction": "LOADB (R1),R2", "expect answer": 0}, [fault[11], grounds.NO_SUCH_OPCODE]),
+        ({"instruction": "0x2022", "d": 1, "expect result": -1}, [fault[11], grounds.FIELD_NOT_ZERO, grounds.AS_BEFORE]),
+        ({"instruction": "ADD R1,R2", "running": 0, "expect answer": 0, "expect steps": 1}, [grounds.ORDER]),
+        ({"instruction": "STORE R2,(R1)", "s": "0xF02114", "expect answer": 0},
+         [own, grounds.CHIP_REGISTERS[0xF02114]]),
+        ({"instruction": "ADD R1,R32", "expect result": 5}, []),
+        ({"instruction": "ADD R1,R2"}, []),
+    )
+    told = Told(table_of(columns, [row for row, _ in cases])).expect(2)
+    rows = told.rows()
+    for number, (row, sentences) in enumerate(cases, 2):
+        got = re.findall(r"^ +01: (.*)$", rows[number], re.MULTILINE)
+        assert got == sentences, (row, got, rows[number])
+    assert "answer: expected no fault, got 13 (address not a multiple of 4)" in rows[2], rows[2]
+    unread = re.findall(r'<article class="unread">.*?</article>', told.page, re.DOTALL)
+    assert len(unread) == 2 and "01:" not in "".join(unread), unread
+
+
 def sentences_are_the_papers():
     """What grounds.py has in quotation marks stands in docs/quotations.txt, which is held to the papers; so do the faults'
     meanings."""
     known = (ROOT / "docs" / "quotations.txt").read_text("utf-8")
     told = [grounds.NO_SUCH_OPCODE, grounds.FIELD_NOT_ZERO, grounds.FLAGS_FOLLOW, grounds.SHIFTED_OUT, grounds.JUMPS_WAIT,
-            grounds.A_FAULT, *grounds.CHIP_REGISTERS.values()]
+            grounds.A_FAULT, grounds.NO_SUCH_FAULT, grounds.AS_BEFORE, grounds.ORDER, *grounds.CHIP_REGISTERS.values()]
     faults = [meaning for number, meaning in comparison.ANSWERS.items() if number > 1]
     for quotation in re.findall(r'"([^"]*)"', " ".join(told)) + faults:
         assert quotation in known, quotation
@@ -163,4 +202,31 @@ def hints():
     assert [hint in row for row in rows] == [True] * len(theirs) + [False] * len(others), rows
 
 
-TESTS = (examples_of_the_document, parts_are_told, sentences_are_told, further_sentences, sentences_are_the_papers, hints)
+def decimal_numbers():
+    """Seven or eight digits without a mark, before the step or where a row differs, may have been meant as hexadecimal."""
+    said = "80000000 was read as decimal; write 0x80000000 if it is hexadecimal"
+    columns = "instruction,s,d,counter,note,#mine,expect result,expect R5,expect answer,expect Z"
+    shift = {"instruction": "SHLQ #1,R2", "expect result": 0}
+    rows = (
+        ({**shift, "d": "80000000"}, [said]),
+        ({**shift, "d": 1, "expect result": "80000000"}, [said]),
+        ({"instruction": "ADD R1,R2", "s": "80000000", "d": " 80000000 ", "expect result": "1000000"},
+         [said, said.replace("80000000", "1000000")]),
+        # It is marked, has too few or too many digits for one, is no number of the table, or stands where the row agrees.
+        ({**shift, "d": "0x80000000", "expect result": 3}, []),
+        ({**shift, "d": "800000"}, []),
+        ({**shift, "d": "2147483649"}, []),
+        ({**shift, "d": "-80000000"}, []),
+        ({**shift, "d": 1, "note": "80000000", "#mine": "80000000", "expect answer": "00000013"}, []),
+        ({"instruction": "MOVEI #80000000,R5", "expect R5": "80000000", "expect Z": 1}, []),
+    )
+    table = table_of(columns, [row for row, _ in rows])
+    told = Told(table).expect(1, f" {len(rows)} differed; 0 not run")
+    for text, (row, wanted) in zip(told.rows().values(), rows):
+        assert re.findall(r"^ +(\d+ was read as .*)$", text, re.MULTILINE) == wanted, (row, text)
+    assert told.page.count(said) == 3, told.page
+    assert "read as decimal" not in Told(table, "--hex").text
+
+
+TESTS = (examples_of_the_document, parts_are_told, sentences_are_told, further_sentences, faults_sentences,
+         sentences_are_the_papers, hints, decimal_numbers)

@@ -86,6 +86,11 @@ def formats():
         Told(data).expect(0, "1 row run: 1 agreed")
     bare = "word,s,d,expect result\n0022,FF,1,100\n0022,-10,20,0x10\n"
     Told(bare, "--hex").expect(0, "2 rows run: 0 agreed, 2 agreed in part")
+    # Blanks before a quotation mark, as in text that was copied from a page; and a table of one column.
+    blanks = HEADER.replace(",", ", ") + GOOD.replace(",1", ", 1")
+    blanks = "".join(f"    {line}\n" for line in blanks.split("\n"))
+    Told(blanks).expect(0, "1 row run: 1 agreed", "8 columns with commas between")
+    Told("instruction\nNOP\n").expect(2, "table.csv: 1 column\n", "there is nothing to compare")
     Told("word,s,d,expect result\n5E41,1,-3,-2\n" "67Eh,,,\n").expect(2, "row 3", "'word'")
 
 
@@ -136,6 +141,8 @@ def bad_cells():
     for number, (_, column) in enumerate(bad, 3):
         assert rows[number].startswith(f"row {number:<6} NOT RUN") and f"column '{column}'" in rows[number], rows[number]
         assert len(rows[number]) < 500, rows[number]
+    # The last of them: what to do with two numbers for one register.
+    assert "column 's' in this row, and has another number: leave one of the two cells empty" in rows[len(bad) + 2], rows
     Told("instruction,ram F03000,expect counter\nNOP,1,0xF03002\n").expect(2, "row 2", "column 'ram F03000'")
     Told("instruction,,expect counter\nNOP,1,0xF03002\n").expect(2, "row 2", "column 'number 2'")
 

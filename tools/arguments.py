@@ -5,7 +5,8 @@ import re
 
 import home
 from files import Unusable, told
-from image import SAVED, read_image
+from images import SAVED, read_image
+from listing import warnings_of
 from processor import RAM_LENGTH
 
 FILE_HELP = "a program file (.words, .txt) or an image of 4,096 bytes; - is standard input (default: paper 01's card)"
@@ -49,16 +50,27 @@ def take_image(given, verb, saved=False):
         raise Unusable(f"{image.path}: is a saved machine, which has begun already: {home.typed('show', image.path)} shows "
                        f"it, {home.typed('explain', image.path)} says why it ended")
     told(f"gpu {verb}: {shown_path(image.path)}: {image.described()}")
+    if verb != "show":
+        warn_of_comments(image, verb)
     return image
+
+
+def comments_told(count):
+    return "1 comment does not fit its word" if count == 1 else f"{count} comments do not fit their words"
+
+
+def warn_of_comments(image, verb):
+    """Says where a program file is not what its comments say, since a word may be mistyped and still be an instruction."""
+    count = sum(1 for _ in warnings_of(image, image.length))
+    if count:
+        told(f"gpu {verb}: {comments_told(count)}: {home.typed('show', image.path)} shows where")
 
 
 def take_length(given, image, verb):
     """The length of the code: the one that is given, else the one that the file states."""
     stated = image.length
     if given.length is None and stated is None:
-        raise Unusable(f"{image.path}: the file does not state how long its program is, so nothing was done. Give it, in bytes, "
-                       f"as in {home.typed(verb, image.path, '--length', 68)}, or write a line '; length: 68 bytes' at the top of a "
-                       "program file")
+        raise Unusable(f"{image.path}: the file does not state how long its program is, so nothing was done. {advice(image, verb)}")
     if given.length is None:
         return stated
     if stated is not None and stated != given.length:
@@ -66,3 +78,11 @@ def take_length(given, image, verb):
     if given.length > RAM_LENGTH:
         told(f"gpu {verb}: an image has only {RAM_LENGTH:,} bytes")
     return given.length
+
+
+def advice(image, verb):
+    """How to give a length that is not stated. Only of a program file can it be reckoned, and only its author knows."""
+    if image.code is None:
+        return f"Look it up in the papers of the program, and add it in bytes: {home.typed(verb, image.path, '--length')} and the number"
+    return (f"Its words have {image.code} bytes up to the first line with @ or the end. If all of them are the program, type "
+            f"{home.typed(verb, image.path, '--length', image.code)}")

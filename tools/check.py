@@ -26,7 +26,7 @@ def answer_of(image, length):
 
 
 def run(given):
-    image = take_image(given, "check", saved=True)
+    image = take_image(given, "check")
     length = take_length(given, image, "check")
     answer = answer_of(image, length)
     sys.stdout.write(answer)

@@ -1,18 +1,19 @@
 """gpu explain: what a number, a card, an answer of the check or a program's end means, in sentences to be read aloud."""
 
-import os
 import re
+import shutil
 import sys
+import textwrap
 
 import check
 import home
 import run as run_verb
-from arguments import add_length, take_length
+from arguments import add_length, take_length, warn_of_comments
 from files import STANDARD_INPUT, Unusable, decoded, is_text, read_bytes, told
-from image import MOST_BYTES, SAVED, image_in, read_image
+from images import MOST_BYTES, SAVED, image_in, read_image
 from listing import instruction_at
 from outcome import outcome_of
-from processor import Machine, load
+from processor import Machine
 from refusals import entries_of
 
 SUMMARY = "say what a number, a card or the end of a program means, and what to do"
@@ -25,6 +26,9 @@ MORE = """\
   gpu explain CARD --of FILE     the same, and quotes the program file at the address
 """
 
+# Answers whose address is no place to look at: a program that has stopped, and refused calls.
+NO_PLACE = {1, 31, 32, 33, 34, 35}
+
 
 def arguments(parser):
     parser.add_argument("what", metavar="WHAT", nargs="?", default=STANDARD_INPUT,
@@ -35,14 +39,13 @@ def arguments(parser):
 
 
 def run(given):
-    if re.fullmatch(r"[0-9]{1,3}", given.what) and not os.path.exists(given.what):
-        return explain_number(int(given.what))
+    if re.fullmatch(r"[0-9]{1,3}", given.what):
+        return explain_number(int(given.what), given)
     data = read_bytes(given.what, MOST_BYTES)
     path = "standard input" if given.what == STANDARD_INPUT else given.what
     card = card_in(data)
     if card is not None:
-        told(f"gpu explain: {path}: a card or an answer of the check")
-        return explain_text(card, read_image(given.of) if given.of else None)
+        return explain_card(path, card, given)
     if given.of:
         raise Unusable(f"{path}: is no card, and --of names the program of a card: leave it out")
     if given.what == STANDARD_INPUT and is_text(data) and not re.match(r"\s*([0-9A-Fa-f]{4}\b|;|@)", decoded(data)):
@@ -50,58 +53,117 @@ def run(given):
     return explain_image(image_in(path, data), given)
 
 
-def explain_number(number):
+def refuse_options(given, what):
+    """An option that means nothing here is refused, since it would be taken for obeyed."""
+    named = [name for name, value in (("--check", given.check), ("--length", given.length is not None)) if value]
+    if named:
+        raise Unusable(f"{what}, so {named[0]} means nothing here: leave it out")
+
+
+# Numbers.
+
+def explain_number(number, given):
     """The sentences of a number, with no card: as the page has them."""
+    refuse_options(given, f"{number} is a number")
+    if given.of:
+        raise Unusable(f"{number} is a number, and --of names the program of a card: leave it out")
     entries = entries_of(home.page("REFUSALS.md"), number)
     if not entries:
         raise Unusable(f"{number} is no number of this machine: see that it was copied rightly from the line answer. "
                        f"{home.typed('explain', 14)}, for example, is one")
-    print("\n".join(entries), end="")
+    print(folded("\n".join(entries)), end="")
+    told("gpu explain: ADDRESS and STEPS stand for what a card or the check tells: "
+         f"{home.typed('explain', 'FILE')} says which, of a program or of a card")
     return 0
 
 
+# Cards.
+
 def card_in(data):
-    """The lines of a card or of an answer in a text, or None where there are none. Line ends of other systems, what stands
-    above the card, as the command that was typed, and empty lines below it are no part of it."""
+    """The lines of a card or of an answer in a text, or None where there are none, and the number of the first. Line ends of
+    other systems, blanks around a line, and what stands above and below the card and has not its form, as the command that was
+    typed and what gpu said, are no part of it."""
     if not is_text(data):
         return None
-    lines = [line.rstrip() for line in decoded(data).split("\n")]
-    while lines and not lines[0].startswith("answer="):
-        lines.pop(0)
-    while lines and not lines[-1]:
-        lines.pop()
-    return "".join(line + "\n" for line in lines).encode("ascii", "replace") if lines else None
+    lines = [line.strip() for line in decoded(data).split("\n")]
+    first = next((i for i, line in enumerate(lines) if re.match(r"answer=", line)), None)
+    if first is None:
+        return None
+    last = max(i for i, line in enumerate(lines) if re.match(r"[a-z]+=", line))
+    return "".join(line + "\n" for line in lines[first:last + 1]).encode("ascii", "replace"), first
 
+
+def explain_card(path, card, given):
+    refuse_options(given, f"{path} is a card")
+    text, above = card
+    told(f"gpu explain: {path}: a card or an answer of the check")
+    if above:
+        told(f"gpu explain: it begins at line {above + 1} of the text; lines are counted from there")
+    if not given.of:
+        return explain_text(text, None)
+    image = read_image(given.of)
+    is_of_a_run = b"\nsteps=" in text
+    if is_of_a_run and image.kind != SAVED and run_verb.card_of(image).encode("ascii") != text:
+        raise Unusable(f"{given.of}: prints another card when it is run, so the card is of another program: name the right one")
+    return explain_text(text, image)
+
+
+# Programs and saved machines.
 
 def explain_image(image, given):
     """Runs or checks a program, and explains what came."""
     told(f"gpu explain: {image.path}: {image.described()}")
-    if given.check or given.length is not None:
-        return explain_text(check.answer_of(image, take_length(given, image, "explain")).encode("ascii"), image)
     if image.kind == SAVED:
-        return explain_text(card_of_saved(image), image)
-    return explain_text(run_verb.card_of(image).encode("ascii"), image)
+        refuse_options(given, f"{image.path} is a saved machine, and the check is of a program that begins")
+        return explain_saved(image)
+    warn_of_comments(image, "explain")
+    if given.check or given.length is not None:
+        text = check.answer_of(image, take_length(given, image, "explain"))
+    else:
+        text = run_verb.card_of(image)
+    told("gpu explain: it gives " + " ".join(text.split()))
+    return explain_text(text.encode("ascii"), image)
 
 
-def card_of_saved(image):
-    """The card of a saved machine: one step more, which a fault refuses as it did before. No step is counted to it."""
+def explain_saved(image):
+    """Says how a saved machine stands, by one step more: a fault is refused as it was before, and changes nothing."""
     machine = Machine.of(image.ram, image.block)
-    answer, _ = load(home.library())(machine)
+    answer, _ = home.processor()(machine)
     machine = Machine.of(image.ram, image.block)
+    if machine.read("running") and answer <= 1:
+        print("This machine was saved while it ran, and its next instruction can be run.")
+        quote(image, machine.read("counter"))
+        return 0
+    return explain_text(card_of(machine, answer), image)
+
+
+def card_of(machine, answer):
+    """The card of a machine that has done no step."""
     flags = sum(machine.read(name) << bit for name, bit in (("Z", 0), ("C", 1), ("N", 2), ("bank", 14)))
     longs = machine.read("counter"), flags, machine.read("remainder"), machine.read("accumulator")
-    return (f"answer={answer}\nsteps=0\n" + "".join(f"{key}={n:08X}\n" for key, n in zip(("pc", "flags", "remain", "acc"), longs))
-            ).encode("ascii")
+    lines = [f"{key}={n:08X}\n" for key, n in zip(("pc", "flags", "remain", "acc"), longs)]
+    return (f"answer={answer}\nsteps=0\n" + "".join(lines)).encode("ascii")
 
 
 def explain_text(text, image):
     """Prints the sentences of the program explain, and the line of the program that they speak of."""
     (program,) = home.programs("explain")
-    sys.stdout.write(home.output(program, text).decode("ascii"))
+    said = home.output(program, text).decode("ascii")
+    sys.stdout.write(folded(said))
     outcome = outcome_of(text.decode("ascii"))
-    if image is not None and outcome is not None:
+    if not re.match(r"\d+: ", said):
+        return 2  # no card, a damaged one, or a number that there is not
+    if image is not None and outcome.answer not in NO_PLACE:
         quote(image, outcome.address)
-    return 0 if outcome is not None else 2
+    return 0
+
+
+def folded(said):
+    """The sentences as a terminal shows them, without breaking a word; elsewhere as they are."""
+    if not sys.stdout.isatty():
+        return said
+    width = shutil.get_terminal_size().columns
+    return "".join(textwrap.fill(line, width, break_on_hyphens=False) + "\n" for line in said.splitlines())
 
 
 def quote(image, address):

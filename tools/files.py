@@ -1,7 +1,9 @@
 """Files as people have them: a sentence for one that can not be read, and the text of one whatever its code of letters."""
 
 import difflib
+import os
 import sys
+from contextlib import contextmanager, suppress
 from pathlib import Path
 
 STANDARD_INPUT = "-"
@@ -11,25 +13,50 @@ class Unusable(Exception):
     """A file, or a word of the command, that can not be used. Says which, what is wrong and what to do."""
 
 
-def read_bytes(path, most):
-    """The bytes of a file, of which there may be at most so many. `-` is standard input."""
+@contextmanager
+def opened(path):
+    """A file to be read as bytes; `-` is standard input. One that can not be read has its sentence."""
     try:
         if path == STANDARD_INPUT:
-            data = sys.stdin.buffer.read(most + 1)
+            if sys.stdin is None:
+                raise Unusable("standard input is closed: name a file")
+            if sys.stdin.isatty():
+                told("type or paste the text, then press Enter and Ctrl and D together")
+            yield sys.stdin.buffer
         else:
             with open(path, "rb") as file:
-                data = file.read(most + 1)
+                yield file
     except FileNotFoundError:
         raise Unusable(f"{path}: there is no such file" + nearest(path))
     except IsADirectoryError:
         raise Unusable(f"{path}: this is a folder: name a file that is in it")
     except (OSError, ValueError) as error:
         raise Unusable(f"{path}: can not be read ({getattr(error, 'strerror', None) or error})")
+
+
+def read_bytes(path, most):
+    """The bytes of a file, of which there may be at most so many."""
+    with opened(path) as file:
+        data = file.read(most + 1)
     if len(data) > most:
         raise Unusable(f"{path}: has more than {most:,} bytes, so it is another kind of file: see that the name is right")
     if not data:
-        raise Unusable(f"{path}: the file is empty: copy it again, or name another")
+        raise Unusable("nothing came on standard input: name a file" if path == STANDARD_INPUT else
+                       f"{path}: the file is empty: copy it again, or name another")
     return data
+
+
+def write_whole(path, text):
+    """Writes a file under another name first, so that nobody ever finds half of it."""
+    draft = f"{path}.{os.getpid()}.new"
+    try:
+        with open(draft, "w", encoding="utf-8", errors="replace") as file:
+            file.write(text)
+        os.replace(draft, path)
+    except OSError:
+        with suppress(OSError):
+            os.unlink(draft)
+        raise
 
 
 def nearest(path):
@@ -60,6 +87,11 @@ def is_text(data):
     if data[:2] in (b"\xff\xfe", b"\xfe\xff"):
         data = data.decode("utf-16", "replace").encode("utf-8")
     return not any(byte < 32 and byte not in b"\t\n\f\r" or byte == 127 for byte in data)
+
+
+def printable(text):
+    """A line of a file as it may be shown on a terminal, which obeys some characters."""
+    return "".join(c if c.isprintable() or c == "\t" else "?" for c in text).expandtabs().strip()
 
 
 def told(line):

@@ -10,6 +10,8 @@ import subprocess
 import sys
 from pathlib import Path
 
+from processor import load
+
 ROOT = Path(__file__).resolve().parent.parent
 IS_CLONE = (ROOT / "crates.txt").exists()
 EXAMPLES = ROOT / "examples"
@@ -24,14 +26,17 @@ class NotWhole(Exception):
 
 
 def typed(*words):
-    """A command as it can be typed here: with `./gpu` where gpu was called so, and `gpu` where it is installed."""
-    called = sys.argv[0] if sys.argv[0].endswith("/gpu") else "gpu"
-    return f"'{shlex.join([called, *map(str, words)])}'"
+    """A command as it can be typed here: with `gpu` where it is on the path, else as it was called, which is mostly `./gpu`."""
+    on_path = shutil.which("gpu")
+    is_this = on_path is not None and Path(on_path).resolve() == ROOT / "gpu"
+    called = "gpu" if is_this else sys.argv[0] if sys.argv[0].endswith("/gpu") else "./gpu"
+    text = " ".join(map(shlex.quote, [called, *map(str, words)]))
+    return f'"{text}"' if "'" in text else f"'{text}'"
 
 
 def version():
     """The version's number."""
-    return (ROOT / "VERSION").read_text("ascii").strip()
+    return part(ROOT / "VERSION").read_text("ascii").strip()
 
 
 def made_from():
@@ -72,6 +77,15 @@ def library():
     if IS_CLONE:
         build(["make", "--no-print-directory", "target/libgpu.so.0"])
     return str(part(ROOT / ("target" if IS_CLONE else "lib") / "libgpu.so.0"))
+
+
+def processor(path=None):
+    """The step of the library, or of another one."""
+    path = path or library()
+    try:
+        return load(path)
+    except (OSError, AttributeError):
+        raise NotWhole(f"{path}: the processor is not there, or can not be loaded")
 
 
 def kiosk():

@@ -1,12 +1,15 @@
 """gpu kiosk: the kiosk's program, on an image file of any kind."""
 
+import argparse
 import os
+import re
 import sys
 from pathlib import Path
 
 import home
 from arguments import add_file, add_length, take_image, take_length, whole
-from files import Unusable
+from files import STANDARD_INPUT, Unusable
+from processor import RAM_BASE, RAM_LENGTH
 
 SUMMARY = "run a program frame by frame, with a log and a picture where they are wanted"
 MORE = """\
@@ -14,6 +17,8 @@ The program is checked first where its length is stated or given, and is not run
 other until the program stops, the frames are used up, or a person ends it with Ctrl-C; then the numbers that it holds are shown.
 A program that the check refuses ends it with 2, since nothing was run. docs/KIOSK.md describes the log and the picture.
 """
+
+PICTURE = re.compile(r"(?:\$|0[xX])?([0-9A-Fa-f]{1,8}):([0-9]{1,8})[xX]([0-9]{1,8})(:byte)?")
 
 
 def arguments(parser):
@@ -25,7 +30,27 @@ def arguments(parser):
                         help="frames per second (default: one directly after the other)")
     parser.add_argument("--steps", metavar="N", type=whole(1, 1000000, "a number of steps"), help="steps in a frame (default: 100,000)")
     parser.add_argument("--log", metavar="FILE", help="append a line for each frame; a fault is kept in a file beside it")
-    parser.add_argument("--picture", metavar="ADDRESS:WxH[:byte]", help="draw so many longs, or bytes, of the memory in each frame")
+    parser.add_argument("--picture", metavar="ADDRESS:WxH[:byte]", type=picture,
+                        help="draw so many longs, or bytes, of the memory in each frame, as F03800:16x1")
+
+
+def picture(text):
+    """The picture's place, in the words that the kiosk's program takes. The rules are those of examples/kiosk/picture.h, which
+    has them for its own callers; here a wrong place is told before the program starts, and without its usage."""
+    def refuse_if(is_wrong, what):
+        if is_wrong:
+            raise argparse.ArgumentTypeError(f"'{text}': {what}")
+
+    found = PICTURE.fullmatch(text)
+    refuse_if(not found, "write ADDRESS:WIDTHxHEIGHT, as F03800:16x1, or F03800:16x1:byte where a pixel is a byte")
+    first, width, height = int(found[1], 16), int(found[2]), int(found[3])
+    size = width * height * (1 if found[4] else 4)
+    refuse_if(size == 0, "the width and the height must be 1 or more")
+    refuse_if(first < RAM_BASE or first + size > RAM_BASE + RAM_LENGTH,
+              "the picture is not wholly in RAM, F03000 to F03FFF")
+    refuse_if(not found[4] and first % 4 != 0,
+              "a picture of longs must begin at a multiple of 4; for a picture of bytes put :byte behind it")
+    return text
 
 
 def run(given):
@@ -34,7 +59,8 @@ def run(given):
     image = take_image(given, "kiosk")
     program = home.kiosk()
     length = take_length(given, image, "kiosk") if given.length is not None or image.length is not None else None
-    words = [program, *options(given, image), handed_over(image.ram)] + ([str(length)] if length is not None else [])
+    words = [program, *options(given, image), *commands(given, length), handed_over(image.ram)]
+    words += [str(length)] if length is not None else []
     sys.stdout.flush()
     try:
         # The kiosk takes this process's place, so that a signal reaches it and its status is the command's.
@@ -51,6 +77,15 @@ def options(given, image):
         if value is not None:
             words += [f"--{name}", str(value)]
     return words + ["--endless"] * given.endless
+
+
+def commands(given, length):
+    """The commands that the kiosk's program tells for an explanation, as they can be typed here, with no quotes around them."""
+    words = ["--gpu", home.typed()[1:-1]]
+    if given.file != STANDARD_INPUT:
+        more = ["--length", length] if length is not None else []
+        words += ["--explain", home.typed("explain", given.file, *more)[1:-1]]
+    return words
 
 
 def handed_over(ram):

@@ -4,7 +4,7 @@ import re
 from typing import NamedTuple
 
 import mnemonics
-from image import WORDS
+from images import WORDS
 from numerals import Unreadable
 from processor import RAM_BASE, RAM_LENGTH
 
@@ -53,12 +53,7 @@ def code_end(image, length):
     """Where the code ends: at the length; else where a program file's first words end, or an image's last word but zeros."""
     if length is not None:
         return min(length, RAM_LENGTH) & ~1
-    if image.kind == WORDS:
-        end = 0
-        while end in image.lines:
-            end += 2
-        return end
-    return len(image.ram.rstrip(b"\0")) + 1 & ~1
+    return image.code if image.kind == WORDS else len(image.ram.rstrip(b"\0")) + 1 & ~1
 
 
 def items_of(image, length):
@@ -75,16 +70,38 @@ def items_of(image, length):
 
 def comment_warning(item, comment):
     """What is wrong with the comment of an instruction: it names another, or other operands. None if nothing is seen."""
-    said = re.split(r"\s{2,}|;", comment.strip())[0]
-    name = re.match(r"[A-Z0-9]+\b", said)
-    if not name or name[0] not in mnemonics.BY_MNEMONIC:
-        return None
+    said = re.sub(r"^\w+:\s+", "", re.split(r"\s{2,}|;", comment)[0])
     if item.text is None:
-        return f"the comment says {said}, and the word is no instruction"
-    if name[0] != item.text.split()[0]:
-        return f"the comment says {said}, and the word is {item.text}"
+        word = "is no instruction"
+    else:
+        word = f"is {item.text}"
     try:
-        words = mnemonics.words_of(said, item.address)
+        is_other = mnemonics.words_of(said, item.address) != item.words
     except Unreadable:
-        return None  # a label, or a sentence that begins with a mnemonic
-    return None if words == item.words else f"the comment says {said}, and the word is {item.text}"
+        # With a label as an operand the mnemonics alone can be compared; a sentence that begins with one is none.
+        named = re.match(r"([A-Z0-9]+)(?:$| +[^ ]*[,#()])", said)
+        if not named or named[1] not in mnemonics.BY_MNEMONIC:
+            return None
+        is_other = item.text is None or named[1] != item.text.split()[0]
+    return f"the comment says {said}, and the word {word}" if is_other else None
+
+
+def comments_of(image, item):
+    """The comments of an item's lines, each once, and the number of the first."""
+    comments, number = [], None
+    for offset in range(item.address - RAM_BASE, item.address - RAM_BASE + 2 * len(item.words), 2):
+        line = image.lines.get(offset)
+        # A line of several words has its comment at the first of them.
+        if line is not None and image.lines.get(offset - 2) is not line:
+            number = number or line.number
+            comments += [line.comment] if line.comment else []
+    return comments, number
+
+
+def warnings_of(image, length):
+    """The comments that do not fit their words, as address, line and what is wrong."""
+    for item in items_of(image, length)[0]:
+        comments, number = comments_of(image, item)
+        warning = comments and comment_warning(item, comments[0])
+        if warning:
+            yield item.address, number, warning

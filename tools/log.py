@@ -3,22 +3,18 @@
 import argparse
 import os
 import re
-import sys
-from contextlib import suppress
 from datetime import date
 
 import home
-from files import STANDARD_INPUT, Unusable, nearest
+from files import STANDARD_INPUT, Unusable, opened, write_whole
 from logs.chart import picture_of
 from logs.firing import FAULT, PERSON, REFUSAL, STOP, TOLD_LINES, counted, read_log
 
 SUMMARY = "sum up a day of the kiosk's firing log, and draw it as a picture"
 MORE = """\
 The log is the file that 'gpu kiosk --log FILE' writes. Damaged lines, and a last line that was cut off, are told and passed
-over; then the status is 1.
+over; then the status is 1. The picture is a drawing (SVG), which any browser opens and prints.
 """
-
-READ_AT_ONCE = 1 << 20
 
 
 def arguments(parser):
@@ -46,7 +42,10 @@ def svg_of(text):
 
 
 def run(given):
-    log = log_in(given.file)
+    if not given.file:
+        raise Unusable("no log is named: name the file that was given to gpu kiosk --log, as in make log LOG=firing.log")
+    with opened(given.file) as file:
+        log = read_log(file)
     if not log.days:
         raise Unusable(f"{given.file}: " + ("no line in it is one of a firing log" if log.lines else "the log is empty")
                        + ": name the file that was given to 'gpu kiosk --log'")
@@ -59,8 +58,8 @@ def run(given):
     try:
         # Before the words, of which a reader may take only the first.
         write_whole(picture, picture_of(day_name, day))
-    except Unusable as what:
-        unwritten = what
+    except OSError as error:
+        unwritten = Unusable(f"{picture}: the picture can not be written ({error.strerror}): name another place by --svg")
     for line in [f"Firing log of {day_name}, from {given.file}", *sums_told(day), *damage_told(log)]:
         print(line)
     kept = [event.kept for event in day.events[FAULT] if event.kept != "none"]
@@ -71,21 +70,6 @@ def run(given):
         raise unwritten
     print(f"The picture is {picture}")
     return 1 if log.damaged or log.cut_off else 0
-
-
-def log_in(path):
-    """What the log of a name tells."""
-    try:
-        if path == STANDARD_INPUT:
-            return read_log(sys.stdin.buffer)
-        with open(path, "rb", READ_AT_ONCE) as file:
-            return read_log(file)
-    except FileNotFoundError:
-        raise Unusable(f"{path}: there is no such file" + nearest(path))
-    except IsADirectoryError:
-        raise Unusable(f"{path}: this is a folder: name a log that is in it")
-    except (OSError, ValueError) as error:
-        raise Unusable(f"{path}: can not be read ({getattr(error, 'strerror', None) or error})")
 
 
 def days_told(names):
@@ -100,7 +84,8 @@ def sums_told(day):
         yield f"  {image.name}, checksum {image.checksum}, version {image.version}: {counted(frames, 'frame')}"
     yield row("First frame", day.first or "none")
     yield row("Last frame", day.last or "none")
-    yield row("Runs", day.runs, ", of which 1 had begun before" if day.went_on else "")
+    yield row("Runs", day.runs, f", of which {day.begun_before:,} had begun on another day or in a line that is missing"
+              if day.begun_before else "")
     yield row("Frames", sum(day.frames))
     yield row("Steps", sum(day.steps))
     yield row("Stops by the program", day.count(STOP))
@@ -138,17 +123,3 @@ def damage_told(log):
         yield f"{counted(log.damaged, 'line')} of the log {are} damaged and passed over: {lines} {numbers}"
     if log.cut_off:
         yield f"the last line of the log, line {log.lines}, is cut off and passed over"
-
-
-def write_whole(path, text):
-    """Writes a file under another name first, so that nobody ever finds half of it."""
-    part = f"{path}.{os.getpid()}.part"
-    try:
-        with open(part, "w", encoding="utf-8") as file:
-            file.write(text)
-        os.replace(part, path)
-    except OSError as error:
-        raise Unusable(f"{path}: the picture can not be written ({error.strerror}): name another place by --svg")
-    finally:
-        with suppress(OSError):
-            os.unlink(part)

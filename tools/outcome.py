@@ -13,10 +13,14 @@ class Outcome(NamedTuple):
     address: int
 
     def status(self):
-        """0 in good order, 1 for a fault or a refused program, 2 for a refused call."""
-        if self.answer <= 1:
-            return 0
-        return 1 if self.answer in FAULTS or self.answer in RULES else 2
+        return status_of(self.answer)
+
+
+def status_of(answer):
+    """0 in good order, 1 for a fault or a refused program, 2 for a refused call."""
+    if answer <= 1:
+        return 0
+    return 1 if answer in FAULTS or answer in RULES else 2
 
 
 def outcome_of(text):

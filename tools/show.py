@@ -3,22 +3,25 @@
 import zlib
 
 import home
-from arguments import add_file, add_length, take_image, whole
+from arguments import add_file, add_length, comments_told, take_image, whole
 from files import told
-from image import SAVED
-from listing import comment_warning, instruction_at, items_of, target_of
-from processor import BITS, PLACES, RAM_BASE, RAM_LENGTH, Machine, load
+from images import SAVED, WORDS
+from listing import comments_of, instruction_at, items_of, target_of, warnings_of
+from outcome import FAULTS, status_of
+from processor import BITS, PLACES, RAM_BASE, RAM_LENGTH, Machine
 
 SUMMARY = "show a program word by word, or with --memory or --trace what running it does"
 MORE = """\
 Each line has an address, the words there, the instruction and the comment that the file has for it. A line that begins with !
 warns that the comment names another instruction than the word does. To find an address that a card or an answer tells, look
-for it in the first column.
+for it in the first column. Of a saved machine the registers come first, and > marks the next instruction.
 """
 
 # As many steps as the run program does.
 BUDGET = 1000000
 BYTES_A_LINE = 16
+# So many words of zeros in a row are shown one by one.
+ZEROS_SHOWN = 4
 
 
 def arguments(parser):
@@ -47,28 +50,39 @@ def run(given):
 def show_words(image, length, machine):
     """Prints the listing; warnings are lines of their own below the instruction that they speak of."""
     code, data = items_of(image, length)
-    print(f"checksum (CRC-32) {zlib.crc32(image.ram):08X}")
-    warnings = 0
+    print(checksum(image))
+    warnings = {address: (number, what) for address, number, what in warnings_of(image, length)}
     for part, is_code in ((code, True), (data, False)):
         if part and not is_code:
             print("behind the code:")
+        zeros = 0
         for item in part:
-            line = image.line_at(item.address)
-            # A line of several words has its comment once.
-            fresh = line and image.lines.get(item.address - RAM_BASE - 2) is not line
-            comment = line.comment if fresh else ""
-            target = target_of(item) if is_code else None
-            label = item.label(is_code) + (f" = {target:X}" if target is not None else "")
-            mark = ">" if image.kind == SAVED and item.address == machine.read("counter") else " "
-            print(f"{mark}{item.address:X}  {' '.join(f'{word:04X}' for word in item.words):<14}  {label:<26}{comment}".rstrip())
-            warning = comment_warning(item, comment) if is_code and comment else None
-            if warning:
-                warnings += 1
-                print(f"! {item.address:X}, line {line.number}: {warning}")
+            counter = image.kind == SAVED and item.address == machine.read("counter")
+            zeros = 0 if any(item.words) or item.address - RAM_BASE in image.lines or counter else zeros + 1
+            if zeros < ZEROS_SHOWN:
+                print_item(image, item, is_code, counter)
+            elif zeros == ZEROS_SHOWN:
+                print("        ...")
+            if item.address in warnings:
+                print("! {:X}, line {}: {}".format(item.address, *warnings[item.address]))
+    if image.kind != WORDS and length is None:
+        told("gpu show: instructions and data can not be told apart without the length: add --length and the number of bytes")
     if warnings:
-        told(f"gpu show: {warnings} {'comment does' if warnings == 1 else 'comments do'} not fit: either the word or the comment "
-             "is wrong, and only its author can say which")
+        told(f"gpu show: {comments_told(len(warnings))}: either the word or the comment is wrong, and only its author can say which")
     return 0
+
+
+def checksum(image):
+    sum_of = f"checksum (CRC-32) {zlib.crc32(image.ram):08X}"
+    return sum_of + (" of the memory as it was saved; a log has that of the image before the run" if image.kind == SAVED else "")
+
+
+def print_item(image, item, is_code, is_next):
+    target = target_of(item) if is_code else None
+    label = item.label(is_code) + (f" = {target:X}" if target is not None else "")
+    words = " ".join(f"{word:04X}" for word in item.words)
+    comment = " / ".join(comments_of(image, item)[0])
+    print(f"{'>' if is_next else ' '}{item.address:X}  {words:<14}  {label:<26}{comment}".rstrip())
 
 
 # State.
@@ -90,8 +104,9 @@ def show_state(machine):
 
 def memory(image, machine):
     """Prints the memory after a run, or of a saved machine as it was saved. Lines of zeros are left out."""
+    answer = 0
     if image.kind != SAVED:
-        answer, steps = load(home.library())(machine, BUDGET)
+        answer, steps = home.processor()(machine, BUDGET)
         told(f"gpu show: after {steps:,} steps, answer {answer}, counter {machine.read('counter'):08X}")
     left_out = False
     for offset in range(0, RAM_LENGTH, BYTES_A_LINE):
@@ -103,7 +118,7 @@ def memory(image, machine):
             letters = "".join(chr(byte) if 32 <= byte < 127 else "." for byte in part)
             print(f" {RAM_BASE + offset:X}  {longs}  {letters}")
         left_out = not any(part)
-    return 0
+    return status_of(answer)
 
 
 # Steps.
@@ -121,7 +136,7 @@ def changed(before, after):
 
 def trace(image, machine, count):
     """Prints the first steps: address, instruction, what has changed."""
-    step = load(home.library())
+    step = home.processor()
     answer = 0
     for number in range(1, count + 1):
         counter = machine.read("counter")
@@ -135,10 +150,12 @@ def trace(image, machine, count):
         if answer != 0:
             break
     told(f"gpu show: answer {answer}, counter {machine.read('counter'):08X}" + ended(answer, count))
-    return 0 if answer <= 1 else 1
+    return status_of(answer)
 
 
 def ended(answer, count):
     if answer == 0:
         return f"; these were the first {count:,} steps, and it would go on"
-    return "; the program has stopped" if answer == 1 else "; the instruction there could not be run"
+    if answer == 1:
+        return "; the program has stopped"
+    return "; the instruction there could not be run" if answer in FAULTS else "; the saved state was refused"

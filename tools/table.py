@@ -4,16 +4,13 @@
 It is a script too, with the same words: tools/table.py FILE.csv. docs/INSTRUCTIONS.md says how a table is written.
 """
 
-import argparse
-import os
-import signal
 import sys
 import time
 from datetime import datetime
 
+import command
 import home
 from files import STANDARD_INPUT, Unusable, told
-from processor import load
 from sheets import page
 from sheets.findings import Judge
 from sheets.grounds import Grounds
@@ -26,12 +23,11 @@ from sheets.tallies import Tallies
 SUMMARY = "run each instruction of a spreadsheet's table, and tell the rows that differ"
 MORE = """\
 A table is saved as CSV: one instruction a row, what is there before it, and what is expected after it. docs/INSTRUCTIONS.md
-says how it is written. Ends with 0 if all rows agree, 1 if a row differs, 2 if a row or the table could not be read or no
-row was run, 3 if the processor is missing.
+says how it is written. Ends with 0 if all rows agree, 1 if a row differs, 2 if a row was not run, the table has none, or it
+could not be read, 3 if the processor is missing.
 """
 
 BASE = home.DOCS / "vectors" / "base.csv"
-UNREAD, NOT_WHOLE = 2, 3
 
 
 def arguments(parser):
@@ -58,15 +54,6 @@ def facts_of(given):
                       f"version {home.version()}, made from {home.made_from()}", options)
 
 
-def step_of(library):
-    """The processor's step."""
-    library = library or home.library()
-    try:
-        return load(library)
-    except (OSError, AttributeError):
-        raise home.NotWhole(f"{library}: the processor is not there, or can not be loaded")
-
-
 class Progress:
     """Says now and then how far it is, for a table that takes long."""
 
@@ -85,8 +72,9 @@ def run_table(given, kept):
         raise Unusable("no table is named: name one that is saved as CSV")
     table = read_table(str(BASE) if given.table is None else given.table)
     told(f"gpu table: {name_of(given.table)}{', since no table was named' if given.table is None else ''}: "
-         f"{len(table.columns)} columns with {table.separators} between")
-    judge = Judge(table.columns, step_of(given.library), Grounds(home.page("INSTRUCTIONS.md")), given.hex, given.whole)
+         + ("1 column" if len(table.columns) == 1 else f"{len(table.columns)} columns with {table.separators} between"))
+    step, grounds = home.processor(given.library), Grounds(home.page("INSTRUCTIONS.md"))
+    judge = Judge(table.columns, step, grounds, given.hex, given.whole)
     print_columns(table.columns)
     tallies, progress = Tallies(given.whole), Progress()
     for number, row in table.rows:
@@ -125,27 +113,5 @@ def write_failure(file, given, sentence):
         pass
 
 
-def main():
-    parser = argparse.ArgumentParser(description=SUMMARY, epilog=MORE, allow_abbrev=False)
-    arguments(parser)
-    given = parser.parse_args()
-    for stream in (sys.stdout, sys.stderr):
-        stream.reconfigure(errors="replace")
-    try:
-        status = run(given)
-        sys.stdout.flush()
-        return status
-    except (Unusable, home.NotWhole) as what:
-        sys.stdout.flush()
-        told("\n".join(f"gpu table: {line}" for line in str(what).split("\n")))
-        return UNREAD if isinstance(what, Unusable) else NOT_WHOLE
-    except KeyboardInterrupt:
-        return 128 + signal.SIGINT
-    except BrokenPipeError:
-        # The reader has gone; nothing more can be told.
-        os.dup2(os.open(os.devnull, os.O_WRONLY), sys.stdout.fileno())
-        return UNREAD
-
-
 if __name__ == "__main__":
-    sys.exit(main())
+    sys.exit(command.main(["table", *sys.argv[1:]]))

@@ -20,6 +20,8 @@ struct settings {
     const char *image;
     const char *name;      /* the image's name in the log */
     const char *log;       /* NULL: no log is kept */
+    const char *gpu;       /* how the command gpu is typed */
+    const char *explain;   /* the command that explains the image's end, or NULL */
     bool checked;          /* the length of the code is given, so the loading check comes first */
     uint64_t code_length;  /* 0 if what is given is no length, which the check refuses */
     uint64_t frames;       /* the most frames that are run */
@@ -30,7 +32,8 @@ struct settings {
 
 static const char usage[] =
     "usage: kiosk [--name NAME] [--log FILE] [--fps N] [--endless | --frames N] [--steps N]\n"
-    "             [--picture ADDRESS:WIDTHxHEIGHT[:byte]] IMAGE [LENGTH [FRAMES]]\n";
+    "             [--picture ADDRESS:WIDTHxHEIGHT[:byte]] [--gpu COMMAND] [--explain COMMAND]\n"
+    "             IMAGE [LENGTH [FRAMES]]\n";
 
 /* Ends the program with a sentence about a wrong word of the command line. */
 _Noreturn static inline void refuse(const char *option, const char *word, const char *what)
@@ -64,7 +67,7 @@ static inline unsigned long number_of(const char *option, const char *word, unsi
 /* Takes an option that has a word behind it. */
 static inline void take_option(struct settings *given, const char *option, const char *word)
 {
-    static const char *const known[] = {"--name", "--log", "--fps", "--frames", "--steps", "--picture"};
+    static const char *const known[] = {"--name", "--log", "--fps", "--frames", "--steps", "--gpu", "--explain", "--picture"};
     size_t i = 0, count = sizeof known / sizeof known[0];
     while (i < count && strcmp(option, known[i]) != 0) {
         i++;
@@ -93,6 +96,12 @@ static inline void take_option(struct settings *given, const char *option, const
         break;
     case 4:
         given->steps = number_of(option, word, GPU_BUDGET_LIMIT);
+        break;
+    case 5:
+        given->gpu = word;
+        break;
+    case 6:
+        given->explain = word;
         break;
     default: {
         const char *wrong = read_window(&given->picture, word);
@@ -138,7 +147,7 @@ static inline void take_words(struct settings *given, char **words)
 /* The settings that the command line names. Ends the program where a word is wrong. */
 static inline struct settings read_arguments(int count, char **words)
 {
-    struct settings given = {.steps = DEFAULT_STEPS};
+    struct settings given = {.steps = DEFAULT_STEPS, .gpu = "gpu"};
     bool endless = false;
     for (words += count > 0; *words != NULL && strncmp(*words, "--", 2) == 0; words++) {
         if (strcmp(*words, "--help") == 0) {

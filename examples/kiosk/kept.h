@@ -42,6 +42,25 @@ static inline int create_kept(const char *log, char path[KEPT_LIMIT])
     return file;
 }
 
+/* Prints a file's name as a shell takes it for one word. */
+static inline void print_quoted(const char *path)
+{
+    static const char plain[] = "ABCDEFGHIJKLMNOPQRSTUVWXYZabcdefghijklmnopqrstuvwxyz0123456789./_-+,";
+    if (path[strspn(path, plain)] == '\0') {
+        fputs(path, stdout);
+        return;
+    }
+    putchar('\'');
+    for (; *path != '\0'; path++) {
+        if (*path == '\'') {
+            fputs("'\\''", stdout);
+        } else {
+            putchar(*path);
+        }
+    }
+    putchar('\'');
+}
+
 /* Keeps RAM and then the block in a new file beside the log, and gives its name. If that can not be done, says so, leaves
    no part of a file, and gives false. */
 static inline bool keep(const struct machine *m, const char *log, char path[KEPT_LIMIT])

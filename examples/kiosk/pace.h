@@ -10,21 +10,11 @@
 
 #include "signals.h"
 
-enum { NANOSECONDS = 1000000000 };
-
 /* In nanoseconds. Frames are not paced where the period is 0. */
 struct pace {
     int64_t period;
     int64_t due; /* when the next frame begins */
 };
-
-/* The monotonic clock, which nobody sets: a change of the date or to summer time moves no frame. */
-static inline int64_t nanoseconds(void)
-{
-    struct timespec now;
-    clock_gettime(CLOCK_MONOTONIC, &now);
-    return (int64_t)now.tv_sec * NANOSECONDS + now.tv_nsec;
-}
 
 static inline struct pace start_pace(unsigned long frames_per_second)
 {

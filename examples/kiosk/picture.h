@@ -18,12 +18,14 @@ struct window {
     bool bytes;                     /* a pixel is a byte, else a long */
 };
 
-/* Reads ADDRESS:WIDTHxHEIGHT, with or without `:byte` behind it. Gives NULL, or what is wrong with the text. */
+/* Reads ADDRESS:WIDTHxHEIGHT, with or without `:byte` behind it and 0x or $ before it. Gives NULL, or what is wrong with the
+   text. tools/kiosk.py has the same rules and sentences, and tests/kiosk_log.py holds the two together. */
 static inline const char *read_window(struct window *w, const char *text)
 {
-    char address[9], width[9], height[9];
+    char address[9], width[9], by[2], height[9];
     int length = 0;
-    if (sscanf(text, "%8[0-9A-Fa-f]:%8[0-9]x%8[0-9]%n", address, width, height, &length) != 3 ||
+    text += text[0] == '$' ? 1 : strncmp(text, "0x", 2) == 0 || strncmp(text, "0X", 2) == 0 ? 2 : 0;
+    if (sscanf(text, "%8[0-9A-Fa-f]:%8[0-9]%1[xX]%8[0-9]%n", address, width, by, height, &length) != 4 ||
         (text[length] != '\0' && strcmp(text + length, ":byte") != 0)) {
         return "write ADDRESS:WIDTHxHEIGHT, as F03800:16x1, or F03800:16x1:byte where a pixel is a byte";
     }
@@ -36,10 +38,10 @@ static inline const char *read_window(struct window *w, const char *text)
         return "the width and the height must be 1 or more";
     }
     if (first < GPU_RAM_BASE || first + size > GPU_RAM_BASE + GPU_RAM_LENGTH) {
-        return "the window is not wholly in RAM, F03000 to F03FFF";
+        return "the picture is not wholly in RAM, F03000 to F03FFF";
     }
     if (!w->bytes && first % 4 != 0) {
-        return "a window of longs must begin at a multiple of 4; for a window of bytes put :byte behind it";
+        return "a picture of longs must begin at a multiple of 4; for a picture of bytes put :byte behind it";
     }
     w->offset = first - GPU_RAM_BASE;
     return NULL;

@@ -23,11 +23,11 @@ LINE = re.compile(
 HOURS = 24
 QUARTERS = 4 * HOURS
 
-# How a run can end, so that the log tells it; and which answer tells which end.
+# How a run can end, so that the log tells it, or be refused before it begins; and which answer tells which of these.
 STOP, PERSON, REFUSAL, FAULT = ENDS = "stop", "person", "refusal", "fault"
 UNKNOWN = "unknown"
-END_OF = ({"0": None, "1": STOP} | {str(n): FAULT for n in range(11, 16)}
-          | {str(n): REFUSAL for n in (*range(21, 27), *range(31, 36))})
+END_OF = {"0": None, "1": STOP, **{str(n): FAULT for n in range(11, 16)},
+          **{str(n): REFUSAL for n in (*range(21, 27), *range(31, 36))}}
 
 # As many damaged lines as are told by their number, and as many faults and refusals as are told one by one.
 TOLD_LINES = 5
@@ -56,8 +56,8 @@ class Day:
     def __init__(self):
         self.images = {}                                   # the frames of each Image
         self.first = self.last = None                      # the clock at the first frame and at the last
-        self.began = 0                                     # runs that began on this day
-        self.went_on = False                               # a run that had begun before goes on at the start
+        self.runs = 0                                      # runs that have a line of this day
+        self.begun_before = 0                              # those of them whose first line is not one of this day
         self.frames = [0] * HOURS
         self.steps = [0] * HOURS
         self.ends = {end: [0] * QUARTERS for end in ENDS}  # in each quarter of an hour
@@ -67,20 +67,14 @@ class Day:
         return sum(self.ends[end])
 
     @property
-    def runs(self):
-        return self.began + self.went_on
-
-    @property
     def open_runs(self):
         """Runs of which the lines of the day tell no end."""
-        return max(0, self.runs - sum(map(self.count, ENDS)))
+        return self.runs - self.count(STOP) - self.count(PERSON) - self.count(FAULT)
 
-    def take_start(self, starts):
-        """Counts a run at its first line. A day's first line that begins no run goes on with one."""
-        if starts:
-            self.began += 1
-        elif not self.began and not self.went_on:
-            self.went_on = True
+    def take_run(self, begins):
+        """Counts a run at its first line of the day, which is the first of all where the run begins there."""
+        self.runs += 1
+        self.begun_before += not begins
 
     def take_frame(self, clock, hour, image, steps):
         self.images[image] = self.images.get(image, 0) + 1
@@ -107,6 +101,8 @@ class Log:
         self.damaged_lines = []
         self.cut_off = False
         self.images = {}
+        self.frame = 0   # the last frame of the run that is under way, or 0
+        self.day = None  # in which it was counted last
 
     def damage(self):
         self.damaged += 1
@@ -124,6 +120,14 @@ class Log:
     def image_of(self, raw):
         return self.images.setdefault(raw, Image(*map(printable, raw)))
 
+    def take_run(self, day, frame, end):
+        """Counts the run of a line in its day. It is that of the line before unless that one has ended, or the number of the
+        frame does not grow; a person's end has the number of the last frame. So a run whose first line is lost counts too."""
+        goes_on = self.frame and (frame > self.frame or frame == self.frame and end is PERSON)
+        if not goes_on or day is not self.day:
+            day.take_run(frame == 1 and end is not PERSON)
+        self.frame, self.day = 0 if end else frame, day
+
     def take(self, line):
         """Takes a line; false if it is none of a log."""
         found = LINE.fullmatch(line.decode("utf-8", "replace"))
@@ -138,9 +142,13 @@ class Log:
         image = self.images.get(raw) or self.image_of(raw)
         if key == "ended":
             end = PERSON
-        day.take_start(end is not PERSON and frame in ("0", "1"))
-        if end is not PERSON and end is not REFUSAL:
-            day.take_frame(clock, int(clock[:2]), image, int(steps))
+        if end is REFUSAL:
+            # No run began, and the one before is over.
+            self.frame = 0
+        else:
+            self.take_run(day, int(frame), end)
+            if end is not PERSON:
+                day.take_frame(clock, int(clock[:2]), image, int(steps))
         if end is not None:
             day.take_end(end, Event(clock, int(answer), counter, image, printable(value) if key == "kept" else "none"))
         return True

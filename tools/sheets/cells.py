@@ -16,6 +16,8 @@ UNCHANGED = "unchanged"
 
 # No instruction is longer, with whatever spaces.
 LONGEST = 120
+# Digits alone that may have been meant as hexadecimal: no long has more hex digits, and fewer are mostly decimal.
+MAYBE_HEX = re.compile(r"[0-9]{7,8}")
 HEX_WORD = re.compile(r"(?:0x|\$)?([0-9A-Fa-f]{4})h?", re.IGNORECASE)
 
 
@@ -192,7 +194,7 @@ def case_of(words, counter, bank, values):
         key = place, column.expected
         if key in named and named[key][1] != value:
             raise BadCell(column.name, f"is the same register as the column '{named[key][0]}' in this row, and has another "
-                                       "number")
+                                       "number: leave one of the two cells empty")
         named[key] = column.name, value
         if column.expected:
             expected.append(Cell(column.name[len(EXPECT):], place, value))
@@ -209,6 +211,15 @@ def case_of(words, counter, bank, values):
     expected = [cell._replace(number=before.read(cell.place), unchanged=True) if cell.number is UNCHANGED else cell
                 for cell in expected]
     return Case(before, given, expected)
+
+
+def maybe_hex(columns, cells, differing):
+    """What is said of numbers that may have been meant as hexadecimal, before the step or at a place that differs."""
+    longs = [(column, cell.strip()) for column, cell in zip(columns, cells)
+             if column.place and column.place not in BITS and column.place not in ONLY_EXPECTED]
+    texts = [text for column, text in longs if MAYBE_HEX.fullmatch(text)
+             and (not column.expected or column.name[len(EXPECT):] in differing)]
+    return [f"{text} was read as decimal; write 0x{text} if it is hexadecimal" for text in dict.fromkeys(texts)]
 
 
 def note_of(columns, cells):

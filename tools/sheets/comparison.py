@@ -40,7 +40,7 @@ def difference(name, place, number, came, as_before):
 
 
 def differences(case, step, whole):
-    """What differs in a case; with `whole`, also what has changed though the row expects nothing of it."""
+    """What differs in a case, and the answer; with `whole`, also what has changed though the row expects nothing of it."""
     after = case.before.copy()
     answer, steps = step(after)
     outcome = {"answer": answer, "steps": steps}
@@ -52,7 +52,7 @@ def differences(case, step, whole):
     named = {cell.place for cell in case.expected}
     if answer > 1 and "answer" not in named:
         found.append(Difference("answer", "answer", 0, "no fault", shown("answer", answer)))
-    return found + (changes(case.before, after, named) if whole else [])
+    return found + (changes(case.before, after, named) if whole else []), answer
 
 
 def changes(before, after, named):

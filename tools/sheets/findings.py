@@ -1,6 +1,6 @@
 """A row of a table to what is told of it, on the screen and on the page."""
 
-from typing import NamedTuple, Optional
+from typing import NamedTuple
 
 from sheets import cells, emulator
 from sheets.comparison import differences, shown
@@ -23,7 +23,7 @@ class Finding(NamedTuple):
     problems: list = ()
     before: str = ""
     sentences: list = ()
-    hint: Optional[str] = None
+    hints: list = ()
 
 
 class Judge:
@@ -37,8 +37,8 @@ class Judge:
         row = cells.read_row(self.columns, texts, self.plain_hex)
         if row.problems:
             return Finding(number, NOT_RUN, row.text, row.opcodes, [], [], cells.note_of(self.columns, texts),
-                           problems=row.problems, sentences=self.grounds.of_opcodes(row.opcodes))
-        found = differences(row.case, self.step, self.whole)
+                           problems=row.problems)
+        found, answer = differences(row.case, self.step, self.whole)
         compared = [cell.name for cell in row.case.expected]
         missing = [] if self.whole else left_out(row.words[0], row.case)
         if not found:
@@ -47,6 +47,12 @@ class Judge:
         return Finding(
             number, DIFFERS, row.text, row.opcodes, compared, missing, cells.note_of(self.columns, texts), found,
             before=before or "all zero",
-            sentences=self.grounds.of_differences(row.words[0], row.case.before, {each.place for each in found}),
-            hint=emulator.hint(row.words[0], row.case.before, [(each.place, each.number) for each in found]),
+            sentences=self.grounds.of_differences(row.words[0], row.case.before, found, answer),
+            hints=self.hints(row, texts, found),
         )
+
+    def hints(self, row, texts, found):
+        """What may be the reason of a difference: a number that was read as decimal, or another emulator."""
+        hints = [] if self.plain_hex else cells.maybe_hex(self.columns, texts, {each.name for each in found})
+        theirs = emulator.hint(row.words[0], row.case.before, [(each.place, each.number) for each in found])
+        return hints + ([theirs] if theirs else [])

@@ -3,6 +3,7 @@
 import re
 
 from mnemonics import NOT_BUILT, mnemonic
+from sheets.comparison import ANSWERS
 from sheets.extent import FLAGS, address_of
 
 RESTS_ON = "Rests on"
@@ -22,6 +23,12 @@ CHIP_REGISTERS = {
     0xF0211C: '"F0211Ch reads the remainder"; "bit 0 of a write becomes the divide mode."',
 }
 A_FAULT = '"A fault is not counted as a step"'
+NO_SUCH_FAULT = '"A fault is a number, other than 31, from the order for a step: here 11 to 15."'
+AS_BEFORE = '"state and RAM […] before the faulty step"'
+ORDER = '"For a step: 31, stopped, 12 for the first word, 11, 15, 12 for the rest, 13, 14"'
+# Answers up to this one are no faults.
+STOPPED = 1
+WORD_NOT_BUILT = 11
 
 
 def rests_on(page):
@@ -31,10 +38,26 @@ def rests_on(page):
     return {int(row[0]): row[at] for row in rows if len(row) > at and row[0].isdigit()}
 
 
-def is_built(word):
-    """Whether a word is an instruction at all."""
+def not_built(word):
+    """Why a word is no instruction, or None where it is one."""
+    if word >> 10 in NOT_BUILT:
+        return NO_SUCH_OPCODE
     sources, whole = ZERO_FIELDS
-    return not (word >> 10 in sources and word & 0x3E0 or word >> 10 == whole and word & 0x3FF)
+    return FIELD_NOT_ZERO if word >> 10 in sources and word & 0x3E0 or word >> 10 == whole and word & 0x3FF else None
+
+
+def of_faults(word, wanted, came, places):
+    """The sentences for answers of which one is a fault: those of the numbers themselves, and what a fault leaves."""
+    texts = []
+    if "answer" in places:
+        numbers = [number for number in (wanted, came) if number > STOPPED]
+        texts += [f'"{ANSWERS[number]}"' if number in ANSWERS else NO_SUCH_FAULT for number in numbers]
+        texts += [ORDER] if len(numbers) == 2 else []
+    if WORD_NOT_BUILT in (wanted, came) and not_built(word):
+        texts.append(not_built(word))
+    if came > STOPPED and places - {"answer", "steps"}:
+        texts.append(AS_BEFORE)
+    return texts
 
 
 class Grounds:
@@ -43,19 +66,25 @@ class Grounds:
     def __init__(self, page):
         self.rests_on = rests_on(page)
 
-    def of_opcodes(self, opcodes):
-        """The sentence of an opcode, or of several that share one."""
-        found = {self.own(opcode) for opcode in opcodes}
-        return [named(text) for text in found] if len(found) == 1 else []
+    def of_differences(self, word, before, found, came):
+        """The sentences for what differs in a row, given the answer that came. The instruction's own decides what it writes,
+        but neither a fault nor what comes of a machine that had stopped."""
+        places = {each.place for each in found}
+        wanted = next((each.number for each in found if each.place == "answer"), came)
+        texts = of_faults(word, wanted, came, places)
+        if not before.read("running"):
+            texts.append(ORDER)
+        else:
+            if came <= STOPPED and (wanted <= STOPPED or places - {"answer", "steps"}):
+                texts += self.of_instruction(word, before, places)
+            if "steps" in places:
+                texts.append(A_FAULT)
+        return [named(text) for text in dict.fromkeys(texts)]
 
-    def own(self, opcode):
-        return NO_SUCH_OPCODE if opcode in NOT_BUILT else self.rests_on[opcode]
-
-    def of_differences(self, word, before, places):
-        """The sentences for the places in which a row differs: first the instruction's own."""
+    def of_instruction(self, word, before, places):
+        """The sentences for what an instruction writes: first its own."""
         name = mnemonic(word >> 10)
-        own = self.own(word >> 10) if is_built(word) else FIELD_NOT_ZERO
-        texts = [own]
+        texts = [not_built(word) or self.rests_on[word >> 10]]
         if name in ("LOAD", "STORE") and address_of(word, before) in CHIP_REGISTERS:
             texts.append(CHIP_REGISTERS[address_of(word, before)])
         if "C" in places and name in SHIFTS:
@@ -65,9 +94,7 @@ class Grounds:
             texts.append(FLAGS_FOLLOW)
         if places & {"counter", "pending"} and (name in ("JR", "JUMP") or before.read("pending") is not None):
             texts.append(JUMPS_WAIT)
-        if "steps" in places:
-            texts.append(A_FAULT)
-        return [named(text) for text in texts]
+        return texts
 
 
 def named(text):

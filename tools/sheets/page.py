@@ -54,7 +54,7 @@ def sums_of(tallies):
     """The rows by their states, which explains the marks as well."""
     kinds = (
         (DIFFERS, DIFFER, "✗", "differ", "Something else came than was expected."),
-        (NOT_RUN, UNREAD, "!", "not run", "A cell can not be read."),
+        (NOT_RUN, UNREAD, "!", "not run", "A cell can not be used, or is missing."),
         (PART, IN_PART, "◐", "in part", "What is compared agrees; not all that the instruction writes is compared."),
         (OK, AGREE, "✓", "agree", "All that the instruction writes is compared."),
     )

@@ -3,7 +3,7 @@
 import os
 from pathlib import Path
 
-from files import Unusable
+from files import Unusable, write_whole
 
 # Whatever has another name may be a person's table, and the file is removed.
 ENDINGS = {".html", ".htm"}
@@ -16,15 +16,14 @@ class PageFile:
         self.path = Path(path)
         if self.path.suffix.lower() not in ENDINGS:
             raise Unusable(f"{path}: the name of a page ends in .html: write --page table.html")
-        self.draft = self.path.with_name(f"{self.path.name}.{os.getpid()}.new")
         try:
             if os.path.exists(table) and self.path.exists() and self.path.samefile(table):
                 raise Unusable(f"{path}: this is the table itself: give the page another name")
-            self.path.unlink(missing_ok=True)
             # In a fresh clone the page's folder comes only with the processor, so one that is missing is told at the end.
             if self.path.parent.exists():
-                self.draft.touch()
-                self.draft.unlink()
+                # Where no page can be written, that is told before the table is run.
+                write_whole(self.path, "")
+                self.path.unlink()
         except OSError as error:
             raise self.not_written(error)
 
@@ -33,8 +32,6 @@ class PageFile:
 
     def write(self, text):
         try:
-            self.draft.write_text(text, "utf-8", "replace")
-            self.draft.replace(self.path)
+            write_whole(self.path, text)
         except OSError as error:
-            self.draft.unlink(missing_ok=True)
             raise self.not_written(error)

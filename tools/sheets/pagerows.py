@@ -30,7 +30,7 @@ def article(finding):
         facts.append(f"Before the step: {escape(finding.before)}")
         if finding.left_out:
             facts.append(f"Not compared: {escape(', '.join(finding.left_out))}")
-    reasons = [escape(text) for text in (*finding.sentences, finding.hint) if text]
+    reasons = [escape(text) for text in (*finding.sentences, *finding.hints)]
     return f"""<article class="{DIFFER if differs else UNREAD}">
 <h4>{'✗' if differs else '!'} Row {finding.number} {'differs' if differs else 'was not run'}: \
 <code>{escape(finding.instruction or 'no instruction')}</code></h4>

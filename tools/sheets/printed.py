@@ -20,7 +20,7 @@ def lines_of(finding):
         lines.append(f"before: {finding.before}")
         if finding.left_out:
             lines.append("not compared: " + ", ".join(finding.left_out))
-    return lines + list(finding.sentences) + ([finding.hint] if finding.hint else [])
+    return [*lines, *finding.sentences, *finding.hints]
 
 
 def print_row(finding, quiet):

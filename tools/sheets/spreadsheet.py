@@ -54,7 +54,8 @@ def separator_of(text):
 
 def rows_of(text, separator, name):
     """The rows of a table, each with its number in the spreadsheet."""
-    reader = csv.reader(io.StringIO(text, newline=""), delimiter=separator, strict=True)
+    # Text that was copied from a page may have blanks before a quotation mark.
+    reader = csv.reader(io.StringIO(text, newline=""), delimiter=separator, strict=True, skipinitialspace=True)
     number = 0
     while True:
         number += 1

@@ -77,9 +77,9 @@ class Tallies:
         if total == 1:
             state = next(state for state, number in self.states.items() if number)
             return {OK: "The one row agrees.", PART: "The one row agrees in the part that it compares.",
-                    DIFFERS: "The one row differs.", NOT_RUN: "No row was run: the only one can not be read."}[state]
+                    DIFFERS: "The one row differs.", NOT_RUN: "The one row could not be run."}[state]
         if not self.run:
-            return f"No row was run: none of the {total:,} can be read."
+            return f"None of the {total:,} rows could be run."
         if differed:
             return (f"{differed:,} of {total:,} rows {'differs' if differed == 1 else 'differ'}"
                     + (f", and {unread:,} could not be run." if unread else "."))

@@ -219,7 +219,8 @@ fn call_text(out: &mut [u8; 1024], answer: u32, address: u32, count: u32) -> usi
             b"32: too many steps were asked for.\n\
               What happened: the kiosk asked for more than 1,000,000 steps at once.\n\
               Where to look: at the number of steps that is set in the kiosk program.\n\
-              What to do: set 1,000,000 or less. The kiosk can call again to go on.\n",
+              What to do: tell the person who looks after the kiosk, who sets 1,000,000 or less. The kiosk can call \
+              again to go on.\n",
             address,
             count,
         ),
@@ -229,8 +230,8 @@ fn call_text(out: &mut [u8; 1024], answer: u32, address: u32, count: u32) -> usi
               What happened: the length is not a multiple of four from 4 to 4,096.\n\
               Where to look: at the number that you gave, or at the line length at the top of the program file.\n\
               What to do: give the length of this program. If it stands nowhere, count the words of the program, each \
-              of four digits, and take twice their number. If that is not a multiple of four, the number of words is \
-              odd, and the person who wrote the program has to add a NOP.\n",
+              of four digits, but not those of its data, and take twice their number. If that is not a multiple of \
+              four, the number of words is odd, and the person who wrote the program has to add a NOP.\n",
             address,
             count,
         ),
