@@ -16,10 +16,8 @@ import tarfile
 import tempfile
 from pathlib import Path
 
-ROOT = Path(__file__).resolve().parent.parent
-# What is typed here is typed by a person, and not as a part of a larger make.
-for name in ("MAKEFLAGS", "MFLAGS", "MAKELEVEL"):
-    os.environ.pop(name, None)
+from gpu_typed import OUTSIDE, ROOT
+
 RELEASES = ROOT / "target" / "release"
 
 # What a plain system has: enough for the command, and for the script that installs it.
@@ -51,7 +49,7 @@ def commands(folder, names):
 
 def run(words, env=None, cwd=None, status=0):
     """What a command prints, which must end with this status."""
-    done = subprocess.run([str(word) for word in words], cwd=cwd or ROOT, env=env, stdin=subprocess.DEVNULL,
+    done = subprocess.run([str(word) for word in words], cwd=cwd or ROOT, env=env or OUTSIDE, stdin=subprocess.DEVNULL,
                           stdout=subprocess.PIPE, stderr=subprocess.STDOUT, text=True, timeout=300)
     if done.returncode != status:
         fail(f"{' '.join(map(str, words))} ended with {done.returncode} and not {status}:\n{done.stdout}")
@@ -106,7 +104,7 @@ def flags(prefix, path):
     """What gpu.pc says to a compiler, read by pkg-config where there is one, and else by hand."""
     file = prefix / "lib" / "pkgconfig" / "gpu.pc"
     if shutil.which("pkg-config"):
-        env = dict(os.environ, PKG_CONFIG_PATH=str(file.parent))
+        env = dict(OUTSIDE, PKG_CONFIG_PATH=str(file.parent))
         return run(["pkg-config", "--cflags", "--libs", "gpu"], env).split()
     text = file.read_text().replace("${pcfiledir}", str(file.parent))
     for name, value in re.findall(r"^(\w+)=(.*)$", text, re.MULTILINE):
@@ -172,8 +170,8 @@ def oldest_python(release, folder):
         return
     (folder / "t.csv").write_text('instruction,s,d,expect result\n"ADD R1,R2",1,2,3\n')
     for words in (["help"], ["run"], ["check"], ["show", "--trace", "3"], ["explain", "14"], ["kiosk"],
-                  ["kiosk", "--log", folder / "log"], ["log", folder / "log"], ["image", release / "examples" / "ramp.words", "-o", folder / "i"],
-                  ["table", folder / "t.csv", "--page", folder / "t.html"]):
+                  ["kiosk", "--log", folder / "log"], ["log", folder / "log"], ["table", folder / "t.csv", "--page", folder / "t.html"],
+                  ["image", release / "examples" / "ramp.words", "-o", folder / "ramp.bin"]):
         run([found, "-B", release / "gpu", *words], cwd=folder)
 
 

@@ -83,6 +83,7 @@ def take_length(given, image, verb):
 def advice(image, verb):
     """How to give a length that is not stated. Only of a program file can it be reckoned, and only its author knows."""
     if image.code is None:
-        return f"Look it up in the papers of the program, and add it in bytes: {home.typed(verb, image.path, '--length')} and the number"
+        return ("Look it up in the papers of the program, and add it in bytes: "
+                f"{home.typed(verb, image.path, '--length')} and the number")
     return (f"Its words have {image.code} bytes up to the first line with @ or the end. If all of them are the program, type "
             f"{home.typed(verb, image.path, '--length', image.code)}")

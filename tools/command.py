@@ -44,7 +44,7 @@ def parser_of(verb):
 
 
 def overview():
-    lines = ["The graphics processor of Tom, proved and rebuilt. Version " + home.version() + f", made from {home.made_from()}.", "",
+    lines = [f"The graphics processor of Tom, proved and rebuilt. Version {home.version()}, made from {home.made_from()}.", "",
              "  gpu VERB [WORDS...]", ""]
     lines += [f"  gpu {verb:<11}{importlib.import_module(verb).SUMMARY}" for verb in VERBS]
     lines += ["  gpu help VERB  what can be written behind a verb", "  gpu --version  the version", ""]
@@ -128,6 +128,6 @@ def main(words):
             tell("gpu", f"the answer can not be written ({error.strerror}): make room on the disk, or write it elsewhere")
         return REFUSED
     except Exception as error:
-        tell("gpu", f"an error of the command itself, {type(error).__name__} ({error}): keep what you typed, and the file, for those "
-                    "who look after it")
+        tell("gpu", f"an error of the command itself, {type(error).__name__} ({error}): keep what you typed, and the file, for "
+                    "those who look after it")
         return NOT_WHOLE

@@ -46,27 +46,24 @@ def run(given):
     card = card_in(data)
     if card is not None:
         return explain_card(path, card, given)
-    if given.of:
-        raise Unusable(f"{path}: is no card, and --of names the program of a card: leave it out")
+    refuse_options(given, f"{path} is no card", ["of"])
     if given.what == STANDARD_INPUT and is_text(data) and not re.match(r"\s*([0-9A-Fa-f]{4}\b|;|@)", decoded(data)):
         return explain_text(decoded(data).encode("ascii", "replace"), None)
     return explain_image(image_in(path, data), given)
 
 
-def refuse_options(given, what):
+def refuse_options(given, what, names):
     """An option that means nothing here is refused, since it would be taken for obeyed."""
-    named = [name for name, value in (("--check", given.check), ("--length", given.length is not None)) if value]
-    if named:
-        raise Unusable(f"{what}, so {named[0]} means nothing here: leave it out")
+    for name in names:
+        if getattr(given, name) not in (None, False):
+            raise Unusable(f"{what}, so --{name} means nothing here: leave it out")
 
 
 # Numbers.
 
 def explain_number(number, given):
     """The sentences of a number, with no card: as the page has them."""
-    refuse_options(given, f"{number} is a number")
-    if given.of:
-        raise Unusable(f"{number} is a number, and --of names the program of a card: leave it out")
+    refuse_options(given, f"{number} is a number", ["check", "length", "of"])
     entries = entries_of(home.page("REFUSALS.md"), number)
     if not entries:
         raise Unusable(f"{number} is no number of this machine: see that it was copied rightly from the line answer. "
@@ -94,7 +91,7 @@ def card_in(data):
 
 
 def explain_card(path, card, given):
-    refuse_options(given, f"{path} is a card")
+    refuse_options(given, f"{path} is a card", ["check", "length"])
     text, above = card
     told(f"gpu explain: {path}: a card or an answer of the check")
     if above:
@@ -114,7 +111,7 @@ def explain_image(image, given):
     """Runs or checks a program, and explains what came."""
     told(f"gpu explain: {image.path}: {image.described()}")
     if image.kind == SAVED:
-        refuse_options(given, f"{image.path} is a saved machine, and the check is of a program that begins")
+        refuse_options(given, f"{image.path} is a saved machine, and the check is of a program that begins", ["check", "length"])
         return explain_saved(image)
     warn_of_comments(image, "explain")
     if given.check or given.length is not None:

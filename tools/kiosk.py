@@ -28,7 +28,8 @@ def arguments(parser):
     parser.add_argument("--endless", action="store_true", help="as many frames as it takes, until the program or a person ends it")
     parser.add_argument("--fps", metavar="N", type=whole(1, 1000, "a number of frames a second"),
                         help="frames per second (default: one directly after the other)")
-    parser.add_argument("--steps", metavar="N", type=whole(1, 1000000, "a number of steps"), help="steps in a frame (default: 100,000)")
+    parser.add_argument("--steps", metavar="N", type=whole(1, 1000000, "a number of steps"),
+                        help="steps in a frame (default: 100,000)")
     parser.add_argument("--log", metavar="FILE", help="append a line for each frame; a fault is kept in a file beside it")
     parser.add_argument("--picture", metavar="ADDRESS:WxH[:byte]", type=picture,
                         help="draw so many longs, or bytes, of the memory in each frame, as F03800:16x1")

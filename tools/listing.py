@@ -1,7 +1,7 @@
 """The words of an image, each with its address, its instruction and the file's own comment."""
 
 import re
-from typing import NamedTuple
+from typing import NamedTuple, Optional
 
 import mnemonics
 from images import WORDS
@@ -13,7 +13,7 @@ class Item(NamedTuple):
     """What stands at an address: its words, and the instruction as text, or None for data and for words that are none."""
     address: int
     words: list
-    text: str
+    text: Optional[str]
 
     def label(self, is_code):
         return self.text or ("no instruction" if is_code else "")
@@ -71,10 +71,7 @@ def items_of(image, length):
 def comment_warning(item, comment):
     """What is wrong with the comment of an instruction: it names another, or other operands. None if nothing is seen."""
     said = re.sub(r"^\w+:\s+", "", re.split(r"\s{2,}|;", comment)[0])
-    if item.text is None:
-        word = "is no instruction"
-    else:
-        word = f"is {item.text}"
+    word = "is no instruction" if item.text is None else f"is {item.text}"
     try:
         is_other = mnemonics.words_of(said, item.address) != item.words
     except Unreadable:

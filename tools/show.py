@@ -68,7 +68,7 @@ def show_words(image, length, machine):
     if image.kind != WORDS and length is None:
         told("gpu show: instructions and data can not be told apart without the length: add --length and the number of bytes")
     if warnings:
-        told(f"gpu show: {comments_told(len(warnings))}: either the word or the comment is wrong, and only its author can say which")
+        told(f"gpu show: {comments_told(len(warnings))}: either word or comment is wrong, and only its author can say which")
     return 0
 
 
