@@ -320,16 +320,9 @@ def signals(kiosk):
         hold("".join(map(frame_line, told)) + "A person ended it.\nanswer 0 after" in out, out)
         hold("bank 1, R0 to R31" in out, out)
 
-    # A sleep ends at once, and so does a run without pauses.
+    # A sleep ends at once, and so does a run without pauses. On a busy machine it may take longer, but not each time.
     for words in ["--fps", 1], []:
-        kiosk.fresh(ENDLESS)
-        process = kiosk.start("--log", "firing.log", "--endless", *words, "image.bin", 4, stdout=subprocess.DEVNULL)
-        kiosk.wait_for_lines(process, 1)
-        sent = time.monotonic()
-        process.send_signal(signal.SIGTERM)
-        process.communicate(timeout=PATIENCE)
-        hold(time.monotonic() - sent < 0.8 and process.returncode == 0, "a signal was slept through")
-        hold(kiosk.entries(ENDLESS)[-1][-1] == "SIGTERM", "a signal in a sleep has no closing line")
+        hold(any(ends_at_once(kiosk, words) for _ in range(5)), "a signal was slept through")
 
     # What nohup has ignored stays ignored.
     kiosk.fresh(ENDLESS)
@@ -341,6 +334,19 @@ def signals(kiosk):
     process.send_signal(signal.SIGTERM)
     process.communicate(timeout=PATIENCE)
     hold(kiosk.entries(ENDLESS)[-1][-1] == "SIGTERM", "a signal that is ignored has ended it")
+
+
+def ends_at_once(kiosk, words):
+    """Whether a run of one frame a second, or without pauses, ends before the second is over."""
+    kiosk.fresh(ENDLESS)
+    process = kiosk.start("--log", "firing.log", "--endless", *words, "image.bin", 4, stdout=subprocess.DEVNULL)
+    kiosk.wait_for_lines(process, 1)
+    sent = time.monotonic()
+    process.send_signal(signal.SIGTERM)
+    process.communicate(timeout=PATIENCE)
+    took = time.monotonic() - sent
+    hold(process.returncode == 0 and kiosk.entries(ENDLESS)[-1][-1] == "SIGTERM", "a signal in a sleep has no closing line")
+    return took < 0.8
 
 
 def pacing(kiosk):
@@ -400,9 +406,9 @@ def screen_before_log(kiosk):
 def signals_on_a_full_screen(kiosk):
     """A signal while the screen takes no more: the frame is logged when it is shown, and never before. A second signal ends
     the kiosk at once, but for one directly behind the first, as timeout and a terminal that is closed send it."""
-    for sent, pause, waits in (([signal.SIGTERM], 0.1, True), ([signal.SIGINT], 0.1, True),
-                               ([signal.SIGTERM, signal.SIGTERM], 0.02, True), ([signal.SIGHUP, signal.SIGTERM], 0.02, True),
-                               ([signal.SIGTERM, signal.SIGTERM], 0.3, False), ([signal.SIGHUP, signal.SIGINT], 0.3, False)):
+    for sent, pause, waits in (([signal.SIGTERM], 0, True), ([signal.SIGINT], 0, True),
+                               ([signal.SIGTERM, signal.SIGTERM], 0, True), ([signal.SIGHUP, signal.SIGTERM], 0, True),
+                               ([signal.SIGTERM, signal.SIGTERM], 0.7, False), ([signal.SIGHUP, signal.SIGINT], 0.7, False)):
         kiosk.fresh(ENDLESS)
         reading, writing = os.pipe()
         fcntl.fcntl(writing, SET_PIPE_SIZE, 4096)
@@ -413,8 +419,12 @@ def signals_on_a_full_screen(kiosk):
         for each in sent:
             process.send_signal(each)
             time.sleep(pause)
+        if waits:
+            time.sleep(0.1)
+            hold(process.poll() is None, f"{sent}: the kiosk ended with {process.poll()}")
+        else:
+            process.wait(PATIENCE)
         hold(kiosk.log.read_bytes() == before, f"{sent}: a line was written of a frame that was not shown")
-        hold((process.poll() is None) == waits, f"{sent}: the kiosk ended with {process.poll()}")
         with open(reading, "rb") as screen:
             out = screen.read()
         err = process.communicate(timeout=PATIENCE)[1]
