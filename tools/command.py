@@ -73,7 +73,8 @@ def verb_of(word):
 
 
 def nearest_option(parser, word):
-    """What is said of a word that is nearly an option; a name with a blank in it comes as two words."""
+    """What is said of a word that is nearly an option; a name with a blank in it comes as two words. argparse has no other list
+    of a parser's options than the one that is taken here."""
     options = [option for action in parser._actions for option in action.option_strings if option.startswith("--")]
     near = difflib.get_close_matches("--" + word.lstrip("-\u2013\u2014").lower(), options, 1, 0.7)
     return f": is it {near[0]}?" if near else ". A name that has a blank in it is written in quotation marks"
@@ -128,6 +129,8 @@ def main(words):
             tell("gpu", f"the answer can not be written ({error.strerror}): make room on the disk, or write it elsewhere")
         return REFUSED
     except Exception as error:
+        if home.IS_CLONE:
+            raise  # those who look after it are here
         tell("gpu", f"an error of the command itself, {type(error).__name__} ({error}): keep what you typed, and the file, for "
                     "those who look after it")
         return NOT_WHOLE

@@ -89,11 +89,6 @@ def is_text(data):
     return not any(byte < 32 and byte not in b"\t\n\f\r" or byte == 127 for byte in data)
 
 
-def printable(text):
-    """A line of a file as it may be shown on a terminal, which obeys some characters."""
-    return "".join(c if c.isprintable() or c == "\t" else "?" for c in text).expandtabs().strip()
-
-
 def told(line):
     """A line on standard error, where what was done is told, so that the answer stands alone on standard output."""
     print(line, file=sys.stderr, flush=True)

@@ -15,10 +15,10 @@ import re
 from pathlib import Path
 from typing import NamedTuple, Optional
 
-from files import STANDARD_INPUT, Unusable, decoded, is_text, printable, read_bytes
+from files import STANDARD_INPUT, Unusable, decoded, is_text, read_bytes
 from home import typed
-from numerals import cut
 from processor import BLOCK_LENGTH, RAM_BASE, RAM_LENGTH
+from texts import counted, cut, printable
 
 WORDS, BYTES, SAVED = "program file", "image", "saved machine"
 ENDINGS = {".words": WORDS, ".txt": WORDS, ".bin": BYTES, ".saved": SAVED}
@@ -59,9 +59,8 @@ class Image(NamedTuple):
             return f"a saved machine: {RAM_LENGTH:,} bytes of RAM and the state"
         if self.kind == BYTES:
             return f"an image of {RAM_LENGTH:,} bytes"
-        words = len(self.lines)
         stated = "no length stated" if self.length is None else f"{self.length} bytes of code"
-        return f"a program file of {words} {'word' if words == 1 else 'words'}, {stated}"
+        return f"a program file of {counted(len(self.lines), 'word')}, {stated}"
 
     def line_at(self, address):
         """The line that names the word at an address, or None."""
@@ -92,7 +91,7 @@ class Reader:
             elif words.startswith("@"):
                 self.move(number, words)
             else:
-                line = Line(number, printable(content), printable(comment))
+                line = Line(number, printable(content).strip(), printable(comment).strip())
                 for item in words.split():
                     self.put(line, item)
         if not self.lines:

@@ -8,7 +8,8 @@ from datetime import date
 import home
 from files import STANDARD_INPUT, Unusable, opened, write_whole
 from logs.chart import picture_of
-from logs.firing import FAULT, PERSON, REFUSAL, STOP, TOLD_LINES, counted, read_log
+from logs.firing import FAULT, PERSON, REFUSAL, STOP, TOLD_LINES, read_log
+from texts import counted
 
 SUMMARY = "sum up a day of the kiosk's firing log, and draw it as a picture"
 MORE = """\

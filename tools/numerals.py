@@ -5,20 +5,14 @@
 
 import re
 
+from texts import cut
+
 # More digits than any column takes are no number.
 MARKED = re.compile(r"(?:0x|\$)([0-9a-f]{1,16})|([0-9a-f]{1,16})h", re.IGNORECASE)
-# As much of a cell as is repeated where it can not be read.
-SHOWN = 40
 
 
 class Unreadable(Exception):
     """A text that can not be read; the message says what is expected, and what to do."""
-
-
-def cut(text):
-    """A text as a message repeats it: on one line, and not at any length."""
-    text = " ".join(text.split())
-    return text if len(text) <= SHOWN else text[:SHOWN] + "…"
 
 
 def number_of(text, plain_hex=False):

@@ -5,7 +5,8 @@ It needs nothing but what stands in it: no script, and no font but the one that 
 
 from html import escape
 
-from logs.firing import FAULT, HOURS, PERSON, QUARTERS, REFUSAL, STOP, counted
+from logs.firing import FAULT, HOURS, PERSON, QUARTERS, REFUSAL, STOP
+from texts import counted
 
 # Four units to a millimetre.
 WIDTH, HEIGHT = 1188, 840

@@ -10,6 +10,7 @@ from functools import partial
 from typing import NamedTuple
 
 from files import told
+from texts import printable
 
 # Longer than any line that the kiosk's program writes.
 LINE_LIMIT = 1 << 14
@@ -152,16 +153,6 @@ class Log:
         if end is not None:
             day.take_end(end, Event(clock, int(answer), counter, image, printable(value) if key == "kept" else "none"))
         return True
-
-
-def counted(count, name):
-    """A number of things in words."""
-    return f"{count:,} {name}{'' if count == 1 else 's'}"
-
-
-def printable(text):
-    """A text of the log as it can be shown anywhere."""
-    return "".join(each if each.isprintable() else "?" for each in text)
 
 
 def read_log(file):

@@ -5,9 +5,10 @@ import re
 from typing import NamedTuple, Optional
 
 import mnemonics
-from numerals import Unreadable, cut, in_range, long_of, number_of
+from numerals import Unreadable, in_range, long_of, number_of
 from processor import BITS, RAM_BASE, Machine
 from sheets.columns import EXPECT, INSTRUCTION, NOTES, ONLY_EXPECTED, BadCell
+from texts import cut
 
 # A spreadsheet's own words for a flag, and the signs for one that stays: the hyphen, the dashes, the minus sign.
 TRUTH = {"0": 0, "1": 1, "true": 1, "false": 0}

@@ -4,8 +4,8 @@ import difflib
 import re
 from typing import NamedTuple
 
-from numerals import cut
 from processor import BITS, LONGS, RAM_BASE, RAM_LENGTH
+from texts import cut
 
 INSTRUCTION = "instruction"
 EXPECT = "expect "

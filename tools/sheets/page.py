@@ -7,7 +7,7 @@ from mnemonics import NOT_BUILT, form, mnemonic
 from sheets.findings import DIFFERS, NOT_RUN, OK, PART
 from sheets.pagerows import anchor, section
 from sheets.pagestyle import ABSENT, AGREE, DIFFER, IN_PART, NO_ROW, STYLE, UNREAD
-from sheets.tallies import rows
+from texts import counted
 
 
 class Facts(NamedTuple):
@@ -28,7 +28,7 @@ def states_of(opcode, tally):
     if tally.unread:
         states.append((UNREAD, f"! {tally.unread:,} not run"))
     if tally.unsure:
-        states.append((UNREAD, f"! {rows(tally.unsure)} {mnemonic(opcode)} … not run"))
+        states.append((UNREAD, f"! {counted(tally.unsure, 'row')} {mnemonic(opcode)} … not run"))
     if opcode in NOT_BUILT:
         states.append((ABSENT, "not built"))
     if tally.part:
@@ -62,7 +62,7 @@ def sums_of(tallies):
     for state, kind, mark, text, why in kinds:
         number = tallies.states[state]
         verb = text + "s" * (number == 1 and text in ("differ", "agree"))
-        what = f"<b>{mark} {rows(number)} {verb}</b> <small>{why}</small>"
+        what = f"<b>{mark} {counted(number, 'row')} {verb}</b> <small>{why}</small>"
         items.append(f'<li class="{kind if number else NO_ROW}">{what}</li>')
     return '<ul class="sums">\n' + "\n".join(items) + "\n</ul>"
 

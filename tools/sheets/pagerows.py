@@ -5,7 +5,7 @@ from html import escape
 from mnemonics import form, mnemonic
 from sheets.findings import DIFFERS
 from sheets.pagestyle import DIFFER, IN_PART, UNREAD
-from sheets.tallies import rows
+from texts import counted
 
 
 def anchor(key):
@@ -50,7 +50,7 @@ def half(content):
 
 def part_article(missing, numbers):
     """The rows of an opcode that leave the same places out."""
-    return (f'<article class="{IN_PART}">\n<h4>◐ {rows(numbers.count)} in part</h4>\n'
+    return (f'<article class="{IN_PART}">\n<h4>◐ {counted(numbers.count, "row")} in part</h4>\n'
             f"<p>{'Row' if numbers.count == 1 else 'Rows'} {escape(numbers.text())}: what is compared agrees. "
             f"Not compared: {escape(', '.join(missing))}.</p>\n</article>")
 
@@ -69,8 +69,8 @@ def section(key, group, tallies, most):
     lines = []
     if isinstance(key, int) and tallies.opcodes[key].unsure:
         name = mnemonic(key)
-        lines.append(f'<p>{rows(tallies.opcodes[key].unsure)} more: see <a href="#{name}">{name} …</a></p>')
+        lines.append(f'<p>{counted(tallies.opcodes[key].unsure, "row")} more: see <a href="#{name}">{name} …</a></p>')
     if more:
-        lines.append(f"<p>… and {rows(more)} more</p>")
+        lines.append(f"<p>… and {counted(more, 'row')} more</p>")
     return (f'<section id="{anchor(key)}">\n<h3>{title_of(key)} <a class="back" href="#boxes">to the boxes</a></h3>\n'
             + "\n".join(articles + lines) + "\n</section>")

@@ -4,10 +4,7 @@ from collections import Counter
 
 import mnemonics
 from sheets.findings import DIFFERS, NOT_RUN, OK, PART
-
-
-def rows(number):
-    return f"{number:,} {'row' if number == 1 else 'rows'}"
+from texts import counted
 
 
 class Tally:
@@ -92,12 +89,12 @@ class Tallies:
     def sums(self):
         """The numbers in a line."""
         in_part = f"{self.states[PART]:,} agreed in part, " if self.states[PART] else ""
-        return (f"{rows(self.run)} run: {self.states[OK]:,} agreed, {in_part}{self.states[DIFFERS]:,} differed; "
+        return (f"{counted(self.run, 'row')} run: {self.states[OK]:,} agreed, {in_part}{self.states[DIFFERS]:,} differed; "
                 f"{self.states[NOT_RUN]:,} not run")
 
     def compared(self):
         """How much was compared."""
-        return (f"{self.cells:,} {'cell' if self.cells == 1 else 'cells'}"
+        return (counted(self.cells, "cell")
                 + (", and in each row whether all else stayed as it was" if self.whole else ""))
 
     def unassigned(self):
@@ -105,11 +102,11 @@ class Tallies:
         told = []
         for name, number in sorted(self.unsure.items()):
             opcodes = ", ".join(map(str, mnemonics.BY_MNEMONIC[name]))
-            told.append((name, f"{rows(number)} {name} … not run, whose opcode can not be told: counted for each of "
+            told.append((name, f"{counted(number, 'row')} {name} … not run, whose opcode can not be told: counted for each of "
                                f"{opcodes}"))
         if self.nameless:
             one = self.nameless == 1
-            told.append((None, f"{rows(self.nameless)} {'names' if one else 'name'} no instruction, and "
+            told.append((None, f"{counted(self.nameless, 'row')} {'names' if one else 'name'} no instruction, and "
                                f"{'counts' if one else 'count'} for no opcode"))
         return told
 
