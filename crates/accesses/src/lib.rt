@@ -1,4 +1,6 @@
 // Rule 6 over the whole code. The ranges of the registers are read and written where they stand.
+#![tactic(auto)]
+
 ghost use Rattle.std.specs.Prelude.{◌≡◌, ◌≤◌, length};
 ghost use Rattle.processor.specs.Processor.{gpu};
 ghost use Rattle.rules.specs.Check.{first_access};

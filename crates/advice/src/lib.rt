@@ -1,4 +1,6 @@
 // What a number that comes back means, in sentences to be read aloud.
+#![tactic(auto)]
+
 ghost use Rattle.text.specs.Wrote.{Begins};
 ghost use Rattle.advice.specs.Explanation.{explanation_of};
 

@@ -1,5 +1,7 @@
 // The arithmetic unit: addition, subtraction and comparison; logic and single bits.
 //
 // Pure functions from operands to a result and flags. An operation that leaves C as it was takes it and hands it back.
+#![tactic(auto)]
+
 pub mod add;
 pub mod logic;

@@ -1,9 +1,11 @@
 // How an instruction ends, how a run ends, and how a call is refused: the numbers of paper 01 are those of the definition.
+#![tactic(auto)]
+
 ghost use Rattle.std.specs.Prelude.{◌≡◌};
 ghost use Rattle.answers.specs.Answers.{fault_of, number_of, answer_of};
 
 // Why an instruction was not completed.
-#[derive(Drop)]
+#[derive(Clone, Copy)]
 pub enum Fault {
     NotBuilt,
     BadCounter,
@@ -14,7 +16,7 @@ pub enum Fault {
 
 // How an instruction ended, and so how instructions one after another did: completed; completed, and the machine stopped; or not
 // completed.
-#[derive(Drop)]
+#[derive(Clone, Copy)]
 pub enum End {
     Completed,
     Stopped,
@@ -22,7 +24,7 @@ pub enum End {
 }
 
 // What a run answers.
-#[derive(Drop)]
+#[derive(Clone, Copy)]
 pub enum Answer {
     Running,
     Stopped,

@@ -1,4 +1,6 @@
 // The state block: bank 0, bank 1, counter, pending target, remainder, accumulator, status.
+#![tactic(auto)]
+
 ghost use Rattle.std.specs.Prelude.{◌≡◌, ◌+◌, ◌*◌, ◌<◌, ◌≤◌, length};
 ghost use Rattle.values.specs.Results.{bit_of};
 ghost use Rattle.block.specs.Block.{block_length, pc_index, longs, put_longs, is_valid, pending_in, activity_in, state_at, activity_bit, status_of, rest_of, put_state};

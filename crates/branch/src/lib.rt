@@ -1,4 +1,6 @@
 // A jump's condition, and the target of a JR.
+#![tactic(auto)]
+
 ghost use Rattle.std.specs.Prelude.{◌≡◌};
 ghost use Rattle.branch.specs.Jump.{chosen_of, met_of, taken_of, jr_target_of};
 

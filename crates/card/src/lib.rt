@@ -1,4 +1,6 @@
 // The text of the run card: what the run program prints of a run.
+#![tactic(auto)]
+
 ghost use Rattle.text.specs.Wrote.{Begins};
 ghost use Rattle.card.specs.Text.{card_text};
 
@@ -7,7 +9,7 @@ use lines::{decimal_line, hex_line};
 pub mod image;
 
 // What the card tells of a run: its answer and its steps, and the state after them.
-#[derive(Drop)]
+#[derive(Clone, Copy)]
 pub struct Card {
     pub answer: u32,
     pub steps: u32,

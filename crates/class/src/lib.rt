@@ -1,4 +1,6 @@
 // An instruction's class: the view of it that the loading rules take.
+#![tactic(auto)]
+
 ghost use Rattle.std.specs.Prelude.{◌≡◌};
 ghost use Rattle.class.specs.Classes.{class_of};
 
@@ -6,14 +8,14 @@ use field::{quick, quick_bytes};
 use isa::{Condition, Instr, Reg, Signed, Unsigned};
 
 // Where a LOAD or STORE reaches: at a register's content, at R14's or R15's plus a number of bytes, or plus a register's content.
-#[derive(Drop)]
+#[derive(Clone, Copy)]
 pub enum Address {
     At(Reg),
     Offset(Reg, u32),
     Indexed(Reg, Reg),
 }
 
-#[derive(Drop)]
+#[derive(Clone, Copy)]
 pub enum Class {
     // No register of the active bank is written.
     Quiet,

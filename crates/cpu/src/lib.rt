@@ -1,4 +1,6 @@
 // One instruction, on registers and RAM that are lent.
+#![tactic(auto)]
+
 mod apply;
 mod execute;
 

@@ -1,4 +1,6 @@
 // Instructions one after another up to a budget, on registers and RAM that are lent.
+#![tactic(auto)]
+
 ghost use Rattle.std.specs.Prelude.{◌≡◌, length};
 ghost use Rattle.processor.specs.Processor.{gpu};
 ghost use Rattle.gpu_core.specs.Machine.{active_in, other_in, machine_with, lent};
@@ -10,7 +12,7 @@ use gpu_core::Core;
 use registers::settle;
 
 // How instructions ended, how many were completed, and the core after them: the registers stand in the two banks that were lent.
-#[derive(Drop)]
+#[derive(Clone, Copy)]
 pub struct Gone {
     pub end: End,
     pub steps: u32,

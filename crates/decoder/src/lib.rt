@@ -1,4 +1,6 @@
 // Words to instructions.
+#![tactic(auto)]
+
 ghost use Rattle.std.specs.Prelude.{◌≡◌, cond};
 ghost use Rattle.isa.specs.declared.Decoded.TheVariants.{Built};
 ghost use Rattle.isa.specs.Words.{no_instruction, decoded_at, decode_of};

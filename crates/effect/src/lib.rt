@@ -1,4 +1,6 @@
 // What an instruction does, told from what it reads: the view of it that a step takes.
+#![tactic(auto)]
+
 ghost use Rattle.std.specs.Prelude.{◌≡◌, ◌<◌, ◌==◌};
 ghost use Rattle.alu.specs.Add.{add_of, sub_of};
 ghost use Rattle.alu.specs.Logic.{btst_of};
@@ -20,7 +22,7 @@ use values::{Computed, Flags};
 
 // What an instruction reads: the contents of the registers that its source and destination fields name,
 // its own address, the flags, the accumulator and the divide mode.
-#[derive(Drop)]
+#[derive(Clone, Copy)]
 pub struct Operands {
     pub s: u32,
     pub d: u32,
@@ -32,7 +34,7 @@ pub struct Operands {
     pub mode: u32,
 }
 
-#[derive(Drop)]
+#[derive(Clone, Copy)]
 pub enum Effect {
     Refused(Fault),
     Nothing,

@@ -1,4 +1,6 @@
 // The program that explains a number: what `run` or `loadcheck` printed on standard input, sentences on standard output.
+#![tactic(auto)]
+
 ghost use Rattle.text.specs.Wrote.{Begins};
 ghost use Rattle.advice.specs.Explanation.{explanation_of};
 ghost use Rattle.explain.specs.ReadsBack.{ReadsBack};

@@ -1,4 +1,6 @@
 // What a field of five bits says where it is no register.
+#![tactic(auto)]
+
 ghost use Rattle.std.specs.Prelude.{◌≡◌, ◌*◌};
 ghost use Rattle.field.specs.Fields.{quick_of, signed_field_of};
 

@@ -1,23 +1,25 @@
 // The core of the machine: its state beside the banks, in numbers, which an instruction changes.
+#![tactic(auto)]
+
 ghost use Rattle.std.specs.Prelude.{◌≡◌, ◌<◌};
 ghost use Rattle.gpu_core.specs.Core.{waiting_of, target_of, counter_of, moved_of, skipped_of, with_flags, with_remainder, with_accumulator, with_mode, with_flag_register, flag_register_of};
 
 use values::Flags;
 
 // The target of a taken jump whose following instruction has not run yet.
-#[derive(Drop)]
+#[derive(Clone, Copy)]
 pub enum Pending {
     None,
     At(u32),
 }
 
-#[derive(Drop)]
+#[derive(Clone, Copy)]
 pub enum Activity {
     Running,
     Stopped,
 }
 
-#[derive(Drop)]
+#[derive(Clone, Copy)]
 pub struct Core {
     // The active bank, a bit.
     pub bank: u32,

@@ -5,7 +5,7 @@ ghost use Rattle.isa.specs.Table.{form_of};
 use crate::Instr;
 
 // How an instruction is laid out in a word: its opcode and those fields that are operands.
-#[derive(Drop)]
+#[derive(Clone, Copy)]
 pub enum Form {
     Two(u32, u32, u32),
     One(u32, u32),

@@ -2,6 +2,8 @@
 //
 // The numbers are those of source document 001, section 5.0; which words are built is paper 01's, "Words".
 
+#![tactic(auto)]
+
 use answers::Fault;
 
 mod form;
@@ -23,7 +25,7 @@ pub type Signed = u32;
 pub type Condition = u32;
 
 // The built instructions in the order of their opcodes, each with its operands in the order of the word's fields.
-#[derive(Drop)]
+#[derive(Clone, Copy)]
 pub enum Instr {
     Add(Reg, Reg),
     Addc(Reg, Reg),
@@ -84,7 +86,7 @@ pub enum Instr {
 }
 
 // What a word is: an instruction, or the refusal.
-#[derive(Drop)]
+#[derive(Clone, Copy)]
 pub enum Decoded {
     Built(Instr),
     Refused(Fault),

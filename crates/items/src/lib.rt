@@ -1,5 +1,7 @@
 // What stands at an offset of the code, and what the loading rules ask of it. A byte behind the end reads as 0, so that every
 // offset has an item.
+#![tactic(auto)]
+
 ghost use Rattle.std.specs.Prelude.{◌≡◌, ◌≤◌, ◌<◌, get_or};
 ghost use Rattle.memory.specs.Memory.{word_at};
 ghost use Rattle.processor.specs.Processor.{gpu};
@@ -11,7 +13,7 @@ use isa::Decoded;
 use memory::wide;
 
 // What stands at an address of the code: no built word, or an instruction of a class, with the long that follows it.
-#[derive(Drop)]
+#[derive(Clone, Copy)]
 pub enum Item {
     Unbuilt,
     Built(Class, u32),
@@ -19,7 +21,7 @@ pub enum Item {
 
 // What rules 2 to 6 ask of an instruction. A MOVEI has its register and its value, a JR its field and its condition, a JUMP
 // its register and its condition, and an access its address.
-#[derive(Drop)]
+#[derive(Clone, Copy)]
 pub enum Shape {
     Other,
     Movei(u32, u32),

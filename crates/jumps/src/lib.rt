@@ -1,4 +1,6 @@
 // A jump: a fault while one is pending; else its target becomes pending where its condition holds.
+#![tactic(auto)]
+
 ghost use Rattle.std.specs.Prelude.{◌≡◌};
 ghost use Rattle.jumps.specs.Jumps.{jump_of};
 

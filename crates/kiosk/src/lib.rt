@@ -1,5 +1,7 @@
 // The run and the loading check as the kiosk's C program calls them. A run takes RAM, a state block of 69 longs, high byte
 // first, and a budget.
+#![tactic(auto)]
+
 ghost use Rattle.std.specs.Prelude.{◌≡◌};
 ghost use Rattle.processor.specs.Processor.{gpu};
 ghost use Rattle.rules.specs.Check.{check_of};

@@ -1,4 +1,6 @@
 // Lines of a key and a number, written into lent bytes. Each function answers the place behind what it wrote.
+#![tactic(auto)]
+
 ghost use Rattle.std.specs.Prelude.{◌+◌, ◌≤◌, length};
 ghost use Rattle.text.specs.Digits.{hex_digits, decimal_of};
 ghost use Rattle.text.specs.Wrote.{Wrote};

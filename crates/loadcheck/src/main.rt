@@ -1,5 +1,7 @@
 // The loading check as a program. Standard input is an image of 4,096 bytes, and behind it the length of the code in decimal
 // digits; what is no such number counts as the length 0, which is refused.
+#![tactic(auto)]
+
 ghost use Rattle.std.specs.Prelude.{◌≡◌};
 ghost use Rattle.loadcheck.specs.Length.{length_of};
 

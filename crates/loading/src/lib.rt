@@ -1,4 +1,6 @@
 // The loading check: the refusals in their order, each rule over the whole code, lowest address first.
+#![tactic(auto)]
+
 ghost use Rattle.std.specs.Prelude.{◌≡◌, ◌≤◌, length};
 ghost use Rattle.processor.specs.Processor.{gpu};
 ghost use Rattle.verdicts.specs.Verdicts.{rule_of};

@@ -1,4 +1,6 @@
 // What a register receives, by a MOVEI, a MOVE PC or a LOAD, on registers and RAM that are lent.
+#![tactic(auto)]
+
 ghost use Rattle.std.specs.Prelude.{◌≡◌, length};
 ghost use Rattle.processor.specs.Processor.{gpu};
 ghost use Rattle.places.specs.Places.{place_of};

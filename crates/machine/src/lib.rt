@@ -1,4 +1,6 @@
 // The machine: a step, and a run of instructions one after another up to a budget.
+#![tactic(auto)]
+
 ghost use Rattle.std.specs.Prelude.{◌≡◌};
 ghost use Rattle.processor.specs.Processor.{gpu};
 ghost use Rattle.rows.specs.Rows.{RowsHold};
@@ -19,7 +21,7 @@ use values::{Flags, bit};
 pub const BUDGET_LIMIT: u64 = 1000000;
 
 // The whole state, as paper 01 lists it.
-#[derive(Drop)]
+#[derive(Clone, Copy)]
 pub struct State {
     pub bank0: [u32; 32],
     pub bank1: [u32; 32],
@@ -38,7 +40,7 @@ pub struct State {
 }
 
 // What a run gives.
-#[derive(Drop)]
+#[derive(Clone, Copy)]
 pub struct Ran {
     pub answer: Answer,
     pub steps: u32,

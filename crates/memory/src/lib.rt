@@ -1,4 +1,6 @@
 // Local RAM, lent as bytes. Words and longs are stored high byte first.
+#![tactic(auto)]
+
 ghost use Rattle.std.specs.Prelude.{◌≡◌, ◌+◌, ◌<◌, ◌≤◌, length};
 ghost use Rattle.processor.specs.Processor.{gpu};
 ghost use Rattle.memory.specs.Memory.{word_at, long_at, put_long, fetch_of, immediate_of};
@@ -7,14 +9,14 @@ use answers::Fault;
 use processor::Gpu;
 
 // What a fetch gives: the word, or the refusal.
-#[derive(Drop)]
+#[derive(Clone, Copy)]
 pub enum Fetched {
     Word(u16),
     Refused(Fault),
 }
 
 // A long that a register is to receive, or the refusal.
-#[derive(Drop)]
+#[derive(Clone, Copy)]
 pub enum Received {
     Long(u32),
     Refused(Fault),

@@ -1,4 +1,6 @@
 // What an instruction tells when it has ended, completed or not. The definitions add the machine that comes of it.
+#![tactic(auto)]
+
 ghost use Rattle.std.specs.Prelude.{◌≡◌};
 ghost use Rattle.outcome.specs.Outcome.{moved_with, faulted_of, done_of};
 
@@ -6,7 +8,7 @@ use answers::{End, Fault};
 use gpu_core::{Core, Pending};
 
 // What an instruction tells: how it ended, and the core after it.
-#[derive(Drop)]
+#[derive(Clone, Copy)]
 pub struct Moved {
     pub end: End,
     pub core: Core,

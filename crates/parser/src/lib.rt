@@ -1,10 +1,12 @@
 // Reads what the run program or the loading check printed.
+#![tactic(auto)]
+
 ghost use Rattle.std.specs.Prelude.{◌≡◌, drop};
 ghost use Rattle.parser.specs.Readings.{check_reading, card_reading, reading_of};
 
 use scanner::{Found, decimal_line, hex_line};
 
-#[derive(Drop)]
+#[derive(Clone, Copy)]
 pub enum Reading {
     // The card of a run: its answer, its steps and its counter.
     Card(u32, u32, u32),

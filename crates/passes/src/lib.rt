@@ -1,4 +1,6 @@
 // Rules 1 to 5 over the whole code, read straight through.
+#![tactic(auto)]
+
 mod broken;
 mod tests;
 

@@ -1,4 +1,6 @@
 // The address map: where the address of a LOAD or STORE leads.
+#![tactic(auto)]
+
 ghost use Rattle.std.specs.Prelude.{◌≡◌};
 ghost use Rattle.processor.specs.Processor.{gpu};
 ghost use Rattle.places.specs.Places.{register_of, is_mapped, is_register, place_of};
@@ -7,7 +9,7 @@ use answers::Fault;
 use processor::Gpu;
 
 // Where an address leads: to a byte of local RAM, to one of the built chip registers, or to a refusal.
-#[derive(Drop)]
+#[derive(Clone, Copy)]
 pub enum Place {
     Ram(usize),
     Flags,

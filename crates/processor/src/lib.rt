@@ -1,8 +1,10 @@
 // The GPU: the constants of local RAM and of the built chip registers, as paper 01 gives them, and the offset of an address in RAM.
+#![tactic(auto)]
+
 ghost use Rattle.std.specs.Prelude.{◌≡◌, ◌+◌, ◌%◌, ◌^◌, ◌<◌};
 ghost use Rattle.processor.specs.Processor.{gpu};
 
-#[derive(Drop)]
+#[derive(Clone, Copy)]
 pub struct Gpu {}
 
 impl Gpu {

@@ -1,5 +1,7 @@
 // Runs the published rows of paper 01 through the compiled functions, and prints each with its result.
 // What this must print is made by the model in tests/vectors.py.
+#![tactic(auto)]
+
 mod row;
 
 use row::row;

@@ -1,5 +1,7 @@
 // What is known of a register's content, as a range and whether it is a multiple of 4, and how the operations of instructions change
 // it. Nothing here knows of the code that is checked.
+#![tactic(auto)]
+
 ghost use Rattle.std.specs.Prelude.{◌≡◌, min};
 ghost use Rattle.ranges.specs.Ranges.{full, unknown, exact_range, and_range, sum_range, less_range, shifted_range, is_exactly};
 ghost use Rattle.ranges.specs.Ordered.{Ordered, AllOrdered};
@@ -7,7 +9,7 @@ ghost use Rattle.ranges.specs.Ordered.{Ordered, AllOrdered};
 use values::{both, either};
 
 // 01's "known": the range of a register's content, both ends included, and whether it is known to be a multiple of 4.
-#[derive(Drop)]
+#[derive(Clone, Copy)]
 pub struct Range {
     pub low: u32,
     pub high: u32,

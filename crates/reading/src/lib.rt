@@ -1,5 +1,7 @@
 // Marks of addresses: which are instruction starts, and which are targets. A mark for each address of RAM, and a few
 // behind it, where the last instruction may end.
+#![tactic(auto)]
+
 ghost use Rattle.std.specs.Prelude.{◌≡◌, ◌+◌, ◌≤◌, ◌<◌, length};
 ghost use Rattle.processor.specs.Processor.{gpu};
 ghost use Rattle.rules.specs.Check.{is_target};

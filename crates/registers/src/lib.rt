@@ -1,4 +1,6 @@
 // The registers of a bank, and the two banks changing places.
+#![tactic(auto)]
+
 ghost use Rattle.std.specs.Prelude.{◌≡◌, cond, ◌%◌, get_or, set};
 
 pub fn get(bank: &[u32; 32], i: u32) -> u32

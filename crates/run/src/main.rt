@@ -1,4 +1,6 @@
 // The run program: an image on standard input, its card on standard output.
+#![tactic(auto)]
+
 use processor::Gpu;
 
 fn main() {

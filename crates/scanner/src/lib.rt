@@ -1,10 +1,12 @@
 // Lines of a text: a key, a number and a line feed, read off at a place.
+#![tactic(auto)]
+
 ghost use Rattle.std.specs.Prelude.{◌≡◌, ◌≤◌, drop};
 ghost use Rattle.scanner.specs.Lines.{digits, decimal, hexadecimal, digit_value, number_in, keyed_in};
 ghost use Rattle.scanner.specs.Places.{placed_in};
 
 // A line that was found: its number, and the place behind it.
-#[derive(Drop)]
+#[derive(Clone, Copy)]
 pub enum Found {
     Number(u32, usize),
     Nothing,

@@ -1,4 +1,6 @@
 // The texts, as in specs/Table.antt.
+#![tactic(auto)]
+
 ghost use Rattle.text.specs.Bytes.{bytes};
 ghost use Rattle.text.specs.Wrote.{Begins};
 ghost use Rattle.template.specs.Fill.{filled};

@@ -1,4 +1,6 @@
 // A STORE: into RAM, or to a chip register, on registers and RAM that are lent.
+#![tactic(auto)]
+
 ghost use Rattle.std.specs.Prelude.{◌≡◌, length};
 ghost use Rattle.processor.specs.Processor.{gpu};
 ghost use Rattle.places.specs.Places.{place_of};

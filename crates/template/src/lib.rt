@@ -1,4 +1,6 @@
 // Writes a text of the table, with the address for '@' and the count for '#'.
+#![tactic(auto)]
+
 ghost use Rattle.std.specs.Prelude.{◌+◌, ◌≤◌, length};
 ghost use Rattle.text.specs.Wrote.{Wrote, Begins};
 ghost use Rattle.template.specs.Fill.{substituted, filled, width_of, room_of};

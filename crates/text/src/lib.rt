@@ -1,4 +1,6 @@
 // Text in lent bytes. Each function writes at a place of the array and answers the place behind what it wrote.
+#![tactic(auto)]
+
 ghost use Rattle.std.specs.Prelude.{◌≡◌, [], ◌∷◌, ◌+◌, ◌<◌, ◌≤◌, length};
 ghost use Rattle.text.specs.Digits.{digit_of, hex_digits, decimal_of};
 ghost use Rattle.text.specs.Wrote.{Wrote};

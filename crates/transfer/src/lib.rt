@@ -2,6 +2,8 @@
 //
 // The ranges stay where they are, with the pass over the code: an instruction says which registers it asks for and which it
 // writes, and what it does is told of those ranges alone. So none of the 32 is copied.
+#![tactic(auto)]
+
 ghost use Rattle.std.specs.Prelude.{◌≡◌};
 ghost use Rattle.processor.specs.Processor.{gpu};
 ghost use Rattle.ranges.specs.Ordered.{Ordered};
@@ -34,7 +36,7 @@ fn allows(from: u32, x: Range) -> bool
 }
 
 // The registers whose ranges an instruction asks for, and the register whose range it changes; 32 where there is none.
-#[derive(Drop)]
+#[derive(Clone, Copy)]
 pub struct Uses {
     pub left: u32,
     pub right: u32,

@@ -1,19 +1,21 @@
 // Values of 32 bits: results and flags of the operations, and two's complement. Beside them, truth values joined.
 //
 // A register is a u32. A flag is a number too, for speed: a bit, which every instruction keeps.
+#![tactic(auto)]
+
 ghost use Rattle.std.specs.Prelude.{◌≡◌, ◌&&◌, ◌||◌};
 ghost use Rattle.values.specs.Results.{bit_of, flags_of};
 
 pub mod signed;
 
 // A result and C after it. Z and N follow the result.
-#[derive(Drop)]
+#[derive(Clone, Copy)]
 pub struct Computed {
     pub value: u32,
     pub carry: u32,
 }
 
-#[derive(Drop)]
+#[derive(Clone, Copy)]
 pub struct Flags {
     pub z: u32,
     pub n: u32,

@@ -7,7 +7,7 @@ use isa::Decoded;
 use items::{item_at, shape_of, size};
 use values::{Computed, Flags};
 
-#[derive(Drop)]
+#[derive(Clone, Copy)]
 pub(crate) struct Digest {
     pub count: u32,
     pub sum: u32,

@@ -3,6 +3,8 @@
 // They take every instruction through pairs of edge values, and all 65,536 words through decode, class, encode and the
 // reading of the loading check; of each family of them a line tells the count and a checksum.
 // What this must print is made by the model in tests/vectors.py.
+#![tactic(auto)]
+
 mod digest;
 mod tables;
 

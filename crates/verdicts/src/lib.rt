@@ -1,9 +1,11 @@
 // What a pass over the code finds, and what the loading check answers: the numbers of paper 01 are those of the definition.
+#![tactic(auto)]
+
 ghost use Rattle.std.specs.Prelude.{◌≡◌, ◌<◌};
 ghost use Rattle.verdicts.specs.Verdicts.{rule_number, verdict_number, verdict_address};
 
 // The loading rules, in the order of their numbers.
-#[derive(Drop)]
+#[derive(Clone, Copy)]
 pub enum Rule {
     AllBuilt,
     JrTarget,
@@ -14,14 +16,14 @@ pub enum Rule {
 }
 
 // What a pass over the code finds: nothing, or the address of the first instruction at which its test fails.
-#[derive(Drop)]
+#[derive(Clone, Copy)]
 pub enum Hit {
     Clear,
     At(u32),
 }
 
 // The answer of the check. A broken rule is told with the address of the instruction at fault.
-#[derive(Drop)]
+#[derive(Clone, Copy)]
 pub enum Verdict {
     Admitted,
     RamLength,
