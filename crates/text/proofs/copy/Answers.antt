@@ -1,5 +1,4 @@
 -- `copy` meets its contract. The loop's invariant: the first i bytes are written, up to `next`.
-use Prim.Native.Nat.{◌-◌}
 use native.Mathlib.Numerals.{add-one}
 use native.Mathlib.Omega.{arith}
 use lib.Seq.{take-suc}
