@@ -2,7 +2,7 @@
 -- Assumes nothing.
 use Rattle.std.proofs.Common.{ℕ, ◌/◌, ◌%◌, ◌^◌, ◌<◌, Bool, true, false, cond, eqb, List, [], ◌∷◌, arith}
 use Rattle.isa.specs.declared.Instr.{Instr}
-use Rattle.isa.specs.declared.Instr.TheVariants.{Load, Store, Jump, Nop}
+use Rattle.isa.specs.declared.Instr.TheVariants.{Nop}
 use Rattle.field.specs.Fields.{quick_of, signed_field_of}
 use Rattle.isa.specs.Table.{form_of, instructions}
 use Rattle.isa.specs.Words.{opcode_in, among}

@@ -22,8 +22,8 @@ words (x ∷ xs) [] h i = absurd h
 words (x ∷ xs) (u ∷ us) h zero = h.0.1
 words (x ∷ xs) (u ∷ us) h (suc i) = words xs us h.1 i
 
-bank : (xs : List ℕ) (vs : List Val) → Is (Array (UInt w32) 32) (map (λ x. x) xs) vs → IsBank xs
-bank xs vs h = subst IsBank (map-id xs) (record { registers = h.1.0.1; words = words (map (λ x. x) xs) h.0 h.1.1 })
+bank : (xs : List ℕ) (vs : List Val) → Is (Array (UInt w32) 32) xs vs → IsBank xs
+bank xs vs h = record { registers = h.1.0.1; words = words xs h.0 h.1.1 }
 
 target : (p : Pending) (vs : List Val) → Is (Q.the_field).row ((Q.the_field).into p) vs → IsPending p
 target None vs h = tt

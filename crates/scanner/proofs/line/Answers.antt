@@ -1,5 +1,4 @@
 -- `line` meets its contract. The loop's invariant: what is left of the key and of the text gives what the whole gives.
-use Prim.Native.Nat.{◌-◌}
 use mathlib.Core.Path.{sym, ap, ◌∙◌}
 use native.Mathlib.Numerals.{add-one}
 use Rattle.scanner.specs.Places.{placed_in}

@@ -1,6 +1,5 @@
 -- `number` meets its contract. The loop's invariant: what is left to read gives what the whole gives, and the number so far
 -- has 32 bits.
-use Prim.Native.Nat.{◌-◌}
 use mathlib.Core.Path.{sym, ap, ◌∙◌}
 use native.Mathlib.Numerals.{add-one}
 use lib.ListN.{drop_of_length-le}

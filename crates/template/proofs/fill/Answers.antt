@@ -1,5 +1,4 @@
 -- `fill` meets its contract. The loop's invariant: the first i bytes are written, up to `next`, and there is room for the rest.
-use Prim.Native.Nat.{◌-◌}
 use native.Mathlib.Numerals.{add-one}
 use native.Mathlib.Omega.{arith}
 use lib.ListN.{get_or}
