@@ -179,7 +179,7 @@ display P sound admitted C e memory s l budgets =
     let r = p.1 in
     let len : length (take C admitted) ≡ C = omega (arith, length-take C admitted, p.0.whole_ram, p.0.at_most) in
     let small : length (take C admitted) ≤ P.size = omega (arith, p.0.at_most) in
-    let h = begins P sound (take C admitted) small r memory s l.is_memory l.is_state (rw len l.same_code) (omega (arith, p.0.at_least_lem)) l.begins in
+    let h = begins P sound (take C admitted) small r memory s l.is_memory l.is_state (rw len l.same_code) (omega (arith, p.0.at_least)) l.begins in
     safe_runs P sound (take C admitted) small r budgets memory s h
 
 pub demand3 : (P : Processor) → Sound P → Demand3 P
