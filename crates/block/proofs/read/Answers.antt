@@ -15,4 +15,3 @@ unfolding state_at longs
 returns-clause-restores_block c =
     (reads (is_bytes _ c.shared_slice_known-1.given)
     (simp (c.with_n.ensures, c.with_c.ensures, c.with_z.ensures, c.activity.ensures, c.long_at-4.ensures, c.long_at-3.ensures, c.pending.ensures, c.long_at-2.ensures, c.long_at.ensures, c.long_at-status.ensures, c.read_bank-b1.ensures, c.read_bank-b0.ensures))).1
-

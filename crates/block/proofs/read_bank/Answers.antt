@@ -1,5 +1,5 @@
 -- `read_bank` meets its contract. The loop's invariant: the first i registers are the first i longs.
-use Rattle.std.proofs.Common.{◌-◌, ◌<◌, length, refl, add-one, arith, length-set, take-suc-set}
+use Rattle.std.proofs.Common.{◌<◌, length, refl, add-one, arith, length-set, take-suc-set}
 use Rattle.block.specs.Block.{longs}
 use Rattle.block.proofs.Longs.{longs_more}
 use Rattle.block.proofs.read_bank.Goals as goal

@@ -16,4 +16,3 @@ returns-clause-restores_state c =
     let s = is_state _ _ c.well_formed.1.0 in
     (writes c.args.s s l c.requires
     (rw (c.write_rest.ensures, c.write_longs-2.ensures, c.write_longs.ensures) (in_parts c.args.s s l c.requires))).1
-

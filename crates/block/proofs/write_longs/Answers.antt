@@ -1,5 +1,5 @@
 -- `write_longs` meets its contract. The loop's invariant: the first i longs are put.
-use Rattle.std.proofs.Common.{◌-◌, ◌<◌, length, refl, ◌∙◌, add-one, arith, take_all}
+use Rattle.std.proofs.Common.{◌<◌, length, refl, ◌∙◌, add-one, arith, take_all}
 use Rattle.block.specs.Block.{put_longs}
 use Rattle.block.proofs.Longs.{puts_more}
 use Rattle.block.proofs.write_longs.Goals as goal

@@ -1,5 +1,5 @@
 -- `mark_code` meets its contract: what is marked and what is left to read make up the starts, and the targets.
-use Prim.Native.Nat.{◌+◌, ◌-◌}
+use Prim.Native.Nat.{◌+◌}
 use native.Mathlib.Omega.{arith}
 use mathlib.Core.Path.{sym, subst, ◌∙◌, ap}
 use mathlib.Core.Bool.{◌||◌}

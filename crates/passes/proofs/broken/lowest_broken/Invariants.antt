@@ -1,0 +1,12 @@
+-- `lowest_broken` meets its contract. The loop's invariant: the limit is the lowest rule that was broken so far.
+use Prim.Native.Nat.{◌-◌}
+use lib.ListN.{length}
+use Rattle.processor.specs.Processor.{gpu}
+use Rattle.passes.proofs.Least.{Least}
+use Rattle.passes.proofs.broken.lowest_broken.Given as goal
+
+abbrev pub invariant-loop-i : goal.invariant-loop-i
+invariant-loop-i l = Least gpu l.code l.i l.p l.limit
+
+abbrev pub decreases-loop-i : goal.decreases-loop-i
+decreases-loop-i l = length l.code - l.i
