@@ -1,6 +1,6 @@
 -- The loop's invariant: the pass came to this offset, and carries what is known there. The lemmas speak of the place at which both
 -- ranges are read.
-use Rattle.std.proofs.Common.{◌≡◌, ℕ, ◌+◌, Bool, true, false, cond, List, length, set, sym, subst, ap, ◌∙◌, arith}
+use Rattle.std.proofs.Common.{◌≡◌, ℕ, ◌+◌, Bool, true, false, cond, List, length, set, sym, subst, ap, ◌∙◌}
 use mathlib.Core.Logic.{inl, inr}
 use Rattle.processor.specs.Processor.{gpu}
 use Rattle.ranges.specs.declared.Range.{Range}
