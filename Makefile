@@ -112,7 +112,7 @@ instructions: target/bench ## count the instructions of a step, with valgrind
 	@bench/instructions
 
 check: ## prove what has changed, and run the programs
-	@scripts/in_memory rt check
+	@rt all test
 
 $(ARCHIVE): $(SOURCES)
 	@scripts/prove staticlib kiosk

@@ -13,7 +13,7 @@ from pathlib import Path
 
 ROOT = Path(__file__).resolve().parent.parent
 SVG = "{http://www.w3.org/2000/svg}"
-TOOLCHAIN = {"io", "libc"}
+TOOLCHAIN = {"io"}
 
 # A small repository: lone uses nothing, top is a program, bare has no code, and that top uses low follows from others.
 SMALL = """\
@@ -28,14 +28,14 @@ bare: low
 right: low left
 
 # a program
-top: low right bare io
+top staticlib: low right bare io
 """
 # What is changed in it, and what scripts/map says then.
 WRONG = [
     ("bare: low", "bare: low top", "bare uses top, which does not stand above it"),
     ("# a program\n", "", "the group of top has no comment"),
 ]
-CHANGED = [("bare: low", "bare: low left"), ("top: low right bare io", "top: low right io"), ("lone:", "other:"),
+CHANGED = [("bare: low", "bare: low left"), ("top staticlib: low right bare io", "top: low right io"), ("lone:", "other:"),
            ("# a program\n", "# the program\n"), ("\n# a program\n", "")]
 
 
@@ -52,6 +52,7 @@ class Listed:
         for block in text.split("\n\n"):
             comments = [line[1:].strip() for line in block.splitlines() if line[:1] == "#"]
             crates = [line.split(":") for line in block.splitlines() if line and line[0] != "#"]
+            crates = [(head.split()[0], uses) for head, uses in crates]
             if crates:
                 self.groups.append((" ".join(comments), [name for name, _ in crates]))
             used.update((name, set(uses.split()) - TOOLCHAIN) for name, uses in crates)

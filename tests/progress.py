@@ -18,50 +18,45 @@ CRATES = """\
 low:
 beside: low
 
-middle: low libc
-library: middle
-program: beside middle io libc
+middle: low io
+library staticlib: middle
+program: beside middle io
 """
 
-# What rt prints and writes, as far as scripts/prove asks. A crate in the file `broken` is not proved, one in `slow` takes two
-# seconds, and one in `changed` is proved again.
+# What rt prints and writes in a crate's folder, as far as scripts/prove asks. A crate in the file `broken` is not proved, one in
+# `slow` takes two seconds, and one in `changed` is proved again.
 RT = '''\
 #!/usr/bin/env python3
-import sys, time
+import os, sys, time
 from pathlib import Path
 order = ["low", "beside", "middle", "library", "program"]
 uses = {"low": [], "beside": ["low"], "middle": ["low"], "library": ["middle"], "program": ["beside", "middle"]}
-listed = lambda name: Path(name).read_text().split() if Path(name).exists() else []
-with open("calls", "a") as calls:
-    print(*sys.argv[1:], file=calls)
-command, *names = sys.argv[1:]
-wanted = set(names)
+root, here = Path("../.."), Path.cwd().name
+listed = lambda name: (root / name).read_text().split() if (root / name).exists() else []
+with open(root / "calls", "a") as calls:
+    print(here, *sys.argv[1:], file=calls)
+said = sys.stderr if sys.argv[1] == "run" else sys.stdout
+wanted = {here}
 for name in reversed(order):
     wanted |= {used for used in uses[name] if name in wanted}
 for name in order:
-    file = Path("target/bin/program" if name == "program" else f"target/rlib/{name}.rlib")
-    if name not in wanted or command == "staticlib" and name in names:
-        continue
-    if file.exists() and name not in listed("changed"):
-        print(f"rt: {name} proved (unchanged since it was last proved)", flush=True)
+    out = root / "crates" / name / "out"
+    if name not in wanted or out.exists() and name not in listed("changed"):
         continue
     time.sleep(2 * (name in listed("slow")))
-    print(f"fn {name}::f: proved (by itself)", flush=True)
     if name in listed("broken"):
-        print(f"rt: {name} NOT PROVED (exit 1, 2 s)", f"rt: FAILED: {name}", sep="\\n", flush=True)
+        print(f"fn {name}::f: not proved", f"crate {name}: modules loaded=0 checked=5", "logic=not-proved", sep="\\n", file=said)
         sys.exit(1)
-    print(f"rt: {name} proved (2 s)", flush=True)
-    file.parent.mkdir(parents=True, exist_ok=True)
-    file.touch()
-if command == "staticlib":
-    Path("target/staticlib").mkdir(parents=True, exist_ok=True)
-    Path(f"target/staticlib/lib{names[0]}.a").touch()
-    print(f"rt: target/staticlib/lib{names[0]}.a has the functions of {names[0]} that are marked", flush=True)
-else:
-    print("rt: ok, crates proved", flush=True)
+    print(f"fn {name}::f: proved", f"library std: modules loaded=9 checked=0", f"crate {name}: modules loaded=0 checked=5",
+          "logic=proved functions=1", sep="\\n", file=said, flush=True)
+    out.mkdir(parents=True, exist_ok=True)
+if sys.argv[1] == "run":
+    print("what the program writes")
+built = root / "crates" / here / "out" / (here if sys.argv[1] == "run" else f"lib{here}.a")
+built.write_text(here)
 '''
 
-FIRST = "proving 4 crates before the first use: less than a minute on two processors\n"
+FIRST = "proving 4 crates before the first use: about a minute\n"
 
 
 def tell(fault):
@@ -78,6 +73,9 @@ class Repository:
         (root / "tools").mkdir()
         (root / "tools" / "rt").write_text(RT, "ascii")
         (root / "tools" / "rt").chmod(0o755)
+        for line in CRATES.splitlines():
+            if re.match("[a-z]", line):
+                (root / "crates" / line.split(":")[0].split()[0]).mkdir(parents=True)
 
     def expect(self, words, status, wanted, changed="", broken="", slow=""):
         """Runs scripts/prove, which must end so and say this."""
@@ -107,25 +105,30 @@ def main():
         repository = Repository(Path(folder))
         program = ["check", "program"]
         names = ["low", "beside", "middle", "program"]
-        lines = [f"[{number} of 4] {name} proved (2 s)\n" for number, name in enumerate(names, 1)]
-        said = "".join(["fn low::f: proved (by itself)\n", "rt: low proved (2 s)\n", "fn beside::f: proved (by itself)\n",
-                        "rt: beside NOT PROVED (exit 1, 2 s)\n", "rt: FAILED: beside\n"])
+        lines = [f"[{number} of 4] {name} is proved\n" for number, name in enumerate(names, 1)]
+        said = "".join(["fn low::f: proved\n", "library std: modules loaded=9 checked=0\n", "crate low: modules loaded=0 checked=5\n",
+                        "logic=proved functions=1\n", "fn beside::f: not proved\n", "crate beside: modules loaded=0 checked=5\n",
+                        "logic=not-proved\n"])
         repository.expect(program, 1, FIRST + lines[0] + said, broken="beside")
         # Some is proved by now; and no line comes for a second.
-        rest = "proving 3 crates before the first use: less than a minute on two processors\n"
-        repository.expect(program, 0, rest + lines[1] + "... minutes\n" + "".join(lines[2:]), slow="middle")
+        rest = "proving 3 crates before the first use: less than a minute\n"
+        shown = [line.replace(f"[{number}", f"[{number - 1}") for number, line in enumerate(lines, 1)]
+        repository.expect(program, 0, rest + shown[1] + "... minutes\n" + "".join(shown[2:]), slow="middle")
+        if (repository.root / "target" / "bin" / "program").read_text("ascii") != "program":
+            tell("the program is not in target/bin")
         repository.expect(program, 0, "")
-        changed = "proving what has changed, at most 2 crates: less than a minute on two processors\n"
-        repository.expect(program, 0, changed + lines[2], changed="middle")
-        # A static library is built at every call; what stands below it is proved by one `rt check`.
+        changed = "proving what has changed, at most 4 crates: about a minute\n"
+        repository.expect(program, 0, changed + "[1 of 4] middle is proved\n", changed="middle")
+        # A static library is built by `rt lib`.
         (repository.root / "calls").unlink()
-        one = "proving 1 crate before the first use: less than a minute on two processors\n"
-        built = "[3 of 3] target/staticlib/liblibrary.a is built\n"
-        repository.expect(["staticlib", "library"], 0, one + built)
-        if (repository.root / "calls").read_text("ascii") != "check middle low\nstaticlib library\n":
+        one = "proving 1 crate before the first use: less than a minute\n"
+        repository.expect(["staticlib", "library"], 0, one + "[1 of 3] library is proved\n")
+        if (repository.root / "calls").read_text("ascii") != "library lib\n":
             tell("a static library is built otherwise")
-        changed = "proving what has changed, at most 3 crates: less than a minute on two processors\n"
-        repository.expect(["staticlib", "library"], 0, changed + "[1 of 3] low proved (2 s)\n" + built, changed="low")
+        if (repository.root / "target" / "staticlib" / "liblibrary.a").read_text("ascii") != "library":
+            tell("the static library is not in target/staticlib")
+        changed = "proving what has changed, at most 3 crates: less than a minute\n"
+        repository.expect(["staticlib", "library"], 0, changed + "[1 of 3] low is proved\n", changed="low")
     passed, said = follow("printf 'rt: a\\nother\\nrt: b\\npart'; sleep 1.5; printf ' of a line\\nlast'", "5")
     if (passed, said) != ("rt: a\nother\nrt: b\npart of a line\nlast", "... minutes, 2 of 5 done\n"):
         tell(f"scripts/follow passes on {passed!r} and says {said!r}")
