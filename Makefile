@@ -85,7 +85,9 @@ rows: ## run the published rows and the further vectors through the compiled fun
 test: ## the whole gate: proofs, must-fail edits, programs, tests
 	@.ci/run
 
-tests: ## the tests over what is built already
+tests: ## build the programs and the archive, and run the tests over them
+	@scripts/prove check run explain loadcheck
+	@$(MAKE) --no-print-directory $(ARCHIVE)
 	@$(MAKE) --no-print-directory -j2 programs pages released differential loading
 
 programs:
