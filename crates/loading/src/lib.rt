@@ -46,7 +46,8 @@ fn rules(code: &[u8]) -> Verdict
     let mut targets = [false; MARKS];
     mark_code(code, &mut starts, &mut targets);
     let n = lowest_broken(code, &starts, &targets);
-    if n < 6 {
+    let one_is_broken = n < 6;
+    if one_is_broken {
         return told(rule_of(n), first_broken(n, code, &starts, &targets));
     }
     told(Rule::Access, first_access(code, &targets))

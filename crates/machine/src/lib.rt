@@ -88,7 +88,8 @@ pub fn run(ram: &mut [u8], state: State, budget: u64) -> Ran
     ensures holds_bytes { HoldsBytes (lent ram.old) × IsState state }
     ensures laws { Laws gpu × RowsHold }
 {
-    if ram.len() != Gpu::SIZE {
+    let is_whole = ram.len() == Gpu::SIZE;
+    if !is_whole {
         return Ran {
             answer: Answer::RamLength,
             steps: 0,

@@ -14,15 +14,15 @@ use Rattle.ranges.specs.Ranges.{full, unknown, range_at}
 use Rattle.values.proofs.Booleans.{by}
 use Rattle.ranges.specs.Ordered.{Ordered, AllOrdered}
 
-get_d_any : {A : Type 0} (l : List A) (i : ℕ) (d e : A) → i < length l → get_or l i d ≡ get_or l i e
-get_d_any [] i d e h = absurd (not-suc-le-zero h)
-get_d_any (x ∷ l) zero d e h = refl
-get_d_any (x ∷ l) (suc i) d e h = get_d_any l i d e (omega arith)
+get_or_any : {A : Type 0} (l : List A) (i : ℕ) (d e : A) → i < length l → get_or l i d ≡ get_or l i e
+get_or_any [] i d e h = absurd (not-suc-le-zero h)
+get_or_any (x ∷ l) zero d e h = refl
+get_or_any (x ∷ l) (suc i) d e h = get_or_any l i d e (omega arith)
 
 -- a register's range, whatever stands for one that is not there
 pub at_register : {k : List Range} → AllOrdered k → {r : ℕ} → r < 32 → (d : Range) → (get_or k r d ≡ range_at k r) × Ordered (get_or k r d)
 at_register {k} o {r} h d =
-    let e = get_d_any k r d full (omega (arith, h, o.count)) in
+    let e = get_or_any k r d full (omega (arith, h, o.count)) in
     (e, subst Ordered (sym e) (o.ordered r))
 
 get_or_out : {A : Type 0} (l : List A) (i : ℕ) (d : A) → length l ≤ i → get_or l i d ≡ d

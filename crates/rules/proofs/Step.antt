@@ -205,7 +205,7 @@ module _ (P : Processor) (sound : Sound P) (code : List ℕ) (small : length cod
   ends = (R N.AllBuilt m.core.pc inv.previous inv.is_instruction).1
 
   -- JR and JUMP
-  module _ (c : Class) (n : ℕ) (item : item_at P code m.core.pc ≡ Built c n) (is_jump_here : is_jump (shape_in c n) ≡ true) (slot_breaker : breaks_slot (shape_in c n) ≡ true) (two : bytes_of (shape_in c n) ≡ 2) (Knows-same : transfer P c n inv.known ≡ inv.known) (leaves : HoldsValue (shape_in c n) m.active) where
+  module _ (c : Class) (n : ℕ) (item : item_at P code m.core.pc ≡ Built c n) (is_jump_here : is_jump (shape_in c n) ≡ true) (slot_breaker : breaks_slot (shape_in c n) ≡ true) (two : bytes_of (shape_in c n) ≡ 2) (knows_same : transfer P c n inv.known ≡ inv.known) (leaves : HoldsValue (shape_in c n) m.active) where
     none : m.core.pending ≡ Q.None
     none = none_pending (ap breaks_slot (shape_is c n item) ∙ slot_breaker)
 
@@ -219,7 +219,7 @@ module _ (P : Processor) (sound : Sound P) (code : List ℕ) (small : length cod
         let counter : (m.core.pc + 2) % 2 ^ 32 ≡ after P code m.core.pc = omega (arith, b, four.0, sound.top, small) in
         fall P code R m.core.pc inv.previous inv.known inv.is_instruction inv.knows four.0 (machine_with m.active m.other (moved_of m.core p) m.memory) inv.same_code w
         (ap (λ q. counter_of q m.core.pc) none ∙ counter)
-        (subst (λ i. Fits (transfer_of P i inv.known) m.active) (sym item) (unchanged c n item Knows-same w))
+        (subst (λ i. Fits (transfer_of P i inv.known) m.active) (sym item) (unchanged c n item knows_same w))
         (record { value = subst (λ i. HoldsValue (shape_of i) m.active) (sym item) leaves; pending = λ h. waits (sym (ap (λ i. always (shape_of i)) item) ∙ h) })
         (λ t h. (target t h, four.1))
 

@@ -10,7 +10,8 @@ pub fn decimal(out: &mut [u8], at: usize, n: u32) -> usize
     requires { at + length (decimal_of n) ≤ length out.old }
     ensures { Wrote out.old at (decimal_of n) out.new result }
 {
-    if n < 10 {
+    let one_digit = n < 10;
+    if one_digit {
         put(out, at, digit(n))
     } else {
         let next = decimal(out, at, n / 10);

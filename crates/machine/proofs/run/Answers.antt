@@ -11,17 +11,17 @@ use Rattle.machine.proofs.Laws.{laws}
 use Rattle.machine.proofs.Typed.{is_state}
 use Rattle.machine.proofs.run.Goals as goal
 
-pub returns-then-ram-ne-SIZE-clause-ram_after : goal.returns-then-ram-ne-SIZE-clause-ram_after
+pub returns-then-not-is_whole-clause-ram_after : goal.returns-then-not-is_whole-clause-ram_after
 unfolding run_of
-returns-then-ram-ne-SIZE-clause-ram_after c = rw (ne_eqb _ _ c.if-ram-ne-SIZE.true)
+returns-then-not-is_whole-clause-ram_after c = rw (ne_eqb _ _ c.if-not-is_whole.true)
 
-pub returns-then-ram-ne-SIZE-clause-laws : goal.returns-then-ram-ne-SIZE-clause-laws
+pub returns-then-not-is_whole-clause-laws : goal.returns-then-not-is_whole-clause-laws
 unfolding run_of
-returns-then-ram-ne-SIZE-clause-laws c = (laws gpu gpu_sound, rows_hold)
+returns-then-not-is_whole-clause-laws c = (laws gpu gpu_sound, rows_hold)
 
 pub returns-in-Stopped-clause-ram_after : goal.returns-in-Stopped-clause-ram_after
 unfolding run_of
-returns-in-Stopped-clause-ram_after c = rw (eq-eqb _ _ c.if-ram-ne-SIZE.false, le-ltb _ _ c.if-budget-gt-BUDGET_LIMIT.false, c.in-Stopped.is, ← c.in-Stopped.is)
+returns-in-Stopped-clause-ram_after c = rw (eq-eqb _ _ c.if-not-is_whole.false, le-ltb _ _ c.if-budget-gt-BUDGET_LIMIT.false, c.in-Stopped.is, ← c.in-Stopped.is)
 
 pub returns-in-Stopped-clause-laws : goal.returns-in-Stopped-clause-laws
 unfolding run_of
@@ -32,7 +32,7 @@ unfolding run_of
 returns-in-Running-clause-ram_after c =
     let first = is_one c.from_banks-g.result.core.bank in
     let e = rw c.core.ensures at c.from_banks-g.ensures in
-    rw (eq-eqb _ _ c.if-ram-ne-SIZE.false, le-ltb _ _ c.if-budget-gt-BUDGET_LIMIT.false, c.in-Running.is, c.state_with.ensures, c.activity.ensures, c.answer.ensures, ← e, settled first c.from_banks-g.new.bank0 c.from_banks-g.new.bank1, settled first c.from_banks-g.new.bank1 c.from_banks-g.new.bank0)
+    rw (eq-eqb _ _ c.if-not-is_whole.false, le-ltb _ _ c.if-budget-gt-BUDGET_LIMIT.false, c.in-Running.is, c.state_with.ensures, c.activity.ensures, c.answer.ensures, ← e, settled first c.from_banks-g.new.bank0 c.from_banks-g.new.bank1, settled first c.from_banks-g.new.bank1 c.from_banks-g.new.bank0)
 
 pub returns-in-Running-clause-holds_bytes : goal.returns-in-Running-clause-holds_bytes
 unfolding run_of
@@ -44,7 +44,7 @@ returns-in-Running-clause-laws c = (laws gpu gpu_sound, rows_hold)
 
 pub returns-then-budget-gt-BUDGET_LIMIT-clause-ram_after : goal.returns-then-budget-gt-BUDGET_LIMIT-clause-ram_after
 unfolding run_of
-returns-then-budget-gt-BUDGET_LIMIT-clause-ram_after c = rw (eq-eqb _ _ c.if-ram-ne-SIZE.false, lt-ltb _ _ c.if-budget-gt-BUDGET_LIMIT.true)
+returns-then-budget-gt-BUDGET_LIMIT-clause-ram_after c = rw (eq-eqb _ _ c.if-not-is_whole.false, lt-ltb _ _ c.if-budget-gt-BUDGET_LIMIT.true)
 
 pub returns-then-budget-gt-BUDGET_LIMIT-clause-laws : goal.returns-then-budget-gt-BUDGET_LIMIT-clause-laws
 returns-then-budget-gt-BUDGET_LIMIT-clause-laws c = (laws gpu gpu_sound, rows_hold)
