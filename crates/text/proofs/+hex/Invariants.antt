@@ -1,5 +1,5 @@
 use Rattle.text.proofs.+hex.Given as goal
 
--- proposed from what the function passes where it calls itself
+-- The measure of the recursion.
 abbrev pub decreases-hex : goal.decreases-hex
 decreases-hex l = l.k
