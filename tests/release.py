@@ -84,10 +84,13 @@ def make(version):
 
 
 def check_sums(folder):
-    """Every file is listed with its sum, and no other is there."""
+    """Every file is listed with its sum, no other is there, and none is a link."""
     listed = dict(reversed(line.split("  ", 1)) for line in (folder / "SHA256SUMS").read_text().splitlines())
     found = {str(path.relative_to(folder)): sum_of(path) for path in folder.rglob("*")
-             if path.is_file() and not path.is_symlink() and path.name != "SHA256SUMS"}
+             if path.is_file() and path.name != "SHA256SUMS"}
+    links = [path.name for path in folder.rglob("*") if path.is_symlink()]
+    if links:
+        fail(f"there are links, at which rt stops in the repository: {links}")
     if listed != found:
         fail(f"SHA256SUMS and the files differ: {sorted(set(listed.items()) ^ set(found.items()))[:4]}")
 
