@@ -13,7 +13,7 @@ from pathlib import Path
 
 ROOT = Path(__file__).resolve().parent.parent
 SVG = "{http://www.w3.org/2000/svg}"
-TOOLCHAIN = {"io"}
+TOOLCHAIN = {"arrayvec", "io"}
 
 # A small repository: lone uses nothing, top is a program, bare has no code, and that top uses low follows from others.
 SMALL = """\

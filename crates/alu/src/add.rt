@@ -3,16 +3,12 @@ ghost use Rattle.std.specs.Prelude.{◌≡◌};
 ghost use Rattle.alu.specs.Add.{add_of, addc_of, sub_of, subc_of, neg_of, abs_of, cmp_of, cmpq_of};
 
 use values::signed::{magnitude, unsigned};
-use values::{Computed, Flags, bit};
+use values::{Computed, Flags};
 
 pub fn add(d: u32, s: u32) -> Computed
     ensures { result ≡ add_of d s }
 {
-    let sum = d as u64 + s as u64;
-    Computed {
-        value: (sum % 4294967296) as u32,
-        carry: (sum / 4294967296) as u32,
-    }
+    addc(d, s, 0)
 }
 
 pub fn addc(d: u32, s: u32, c: u32) -> Computed
@@ -28,11 +24,7 @@ pub fn addc(d: u32, s: u32, c: u32) -> Computed
 pub fn sub(d: u32, s: u32) -> Computed
     ensures { result ≡ sub_of d s }
 {
-    let difference = d as u64 + 4294967296 - s as u64;
-    Computed {
-        value: (difference % 4294967296) as u32,
-        carry: bit(d < s),
-    }
+    subc(d, s, 0)
 }
 
 pub fn subc(d: u32, s: u32, c: u32) -> Computed
@@ -42,7 +34,7 @@ pub fn subc(d: u32, s: u32, c: u32) -> Computed
     let difference = d as u64 + 4294967296 - taken;
     Computed {
         value: (difference % 4294967296) as u32,
-        carry: bit((d as u64) < taken),
+        carry: u32::from((d as u64) < taken),
     }
 }
 

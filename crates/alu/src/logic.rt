@@ -2,8 +2,9 @@
 ghost use Rattle.std.specs.Prelude.{◌≡◌};
 ghost use Rattle.alu.specs.Logic.{and_of, or_of, xor_of, not_of, btst_of, bset_of, bclr_of};
 
-use values::{Computed, Flags, bit};
+use values::{Computed, Flags};
 
+// AND, OR and XOR are three operators of the language: a function that took one would be no plainer.
 pub fn and(d: u32, s: u32, c: u32) -> Computed
     ensures { result ≡ and_of d s c }
 {
@@ -44,7 +45,7 @@ pub fn btst(d: u32, q: u32, f: Flags) -> Flags
     ensures { result ≡ btst_of d q f }
 {
     Flags {
-        z: bit((d >> (q % 32)) % 2 == 0),
+        z: u32::from((d >> (q % 32)) % 2 == 0),
         n: f.n,
         c: f.c,
     }

@@ -1,9 +1,9 @@
 -- How instructions end, and the answers of a run, each with paper 01's number.
-use Rattle.std.specs.Prelude.{ℕ}
+use Rattle.std.specs.Prelude.{ℕ, Result, Ok, Err}
 use Rattle.answers.specs.declared.Fault.{Fault}
 use Rattle.answers.specs.declared.Fault.TheVariants.{NotBuilt, BadCounter, Misaligned, Unmapped, JumpPending}
-use Rattle.answers.specs.declared.End.{End}
-use Rattle.answers.specs.declared.End.TheVariants as E
+use Rattle.answers.specs.declared.Activity.{Activity}
+use Rattle.answers.specs.declared.Activity.TheVariants as A
 use Rattle.answers.specs.declared.Answer.{Answer}
 use Rattle.answers.specs.declared.Answer.TheVariants.{Running, Stopped, Faulted, RamLength, BudgetLimit, BlockRule, BlockLength}
 
@@ -25,8 +25,12 @@ number_of BudgetLimit = 32
 number_of BlockRule = 34
 number_of BlockLength = 35
 
+-- How an instruction ended: completed, and whether the machine runs on; or why it was not completed.
+abbrev pub End : Type 0
+End = Result Activity Fault
+
 -- What a run answers whose instructions ended so: "A stop on the last budgeted step gives 1".
 abbrev pub answer_of : End → Answer
-answer_of E.Completed = Running
-answer_of E.Stopped = Stopped
-answer_of (E.Faulted f) = Faulted f
+answer_of (Ok A.Running) = Running
+answer_of (Ok A.Stopped) = Stopped
+answer_of (Err f) = Faulted f

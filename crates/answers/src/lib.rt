@@ -14,16 +14,16 @@ pub enum Fault {
     JumpPending,
 }
 
-// How an instruction ended, and so how instructions one after another did: completed; completed, and the machine stopped; or not
-// completed.
 #[derive(Clone, Copy)]
-pub enum End {
-    Completed,
+pub enum Activity {
+    Running,
     Stopped,
-    Faulted(Fault),
 }
 
-// What a run answers.
+// How an instruction ended, and so how instructions one after another did: completed, and whether the machine runs on; or why not.
+pub type End = Result<Activity, Fault>;
+
+// What a run answers. A stop, a fault and a refusal are answers alike, each with its number, and no errors of one another.
 #[derive(Clone, Copy)]
 pub enum Answer {
     Running,
@@ -35,11 +35,11 @@ pub enum Answer {
     BlockLength,
 }
 
-impl Fault {
-    pub fn number(self) -> u32
-        ensures { result ≡ fault_of self }
-    {
-        match self {
+impl From<Fault> for u32 {
+    ghost from_gives = { λ fault number. number ≡ fault_of fault };
+
+    fn from(fault: Fault) -> u32 {
+        match fault {
             Fault::NotBuilt => 11,
             Fault::BadCounter => 12,
             Fault::Misaligned => 13,
@@ -49,28 +49,28 @@ impl Fault {
     }
 }
 
-impl End {
-    // The answer of a run whose instructions ended so.
-    pub fn answer(self) -> Answer
-        ensures { result ≡ answer_of self }
-    {
-        match self {
-            End::Completed => Answer::Running,
-            End::Stopped => Answer::Stopped,
-            End::Faulted(f) => Answer::Faulted(f),
+// The answer of a run whose instructions ended so.
+impl From<End> for Answer {
+    ghost from_gives = { λ end answer. answer ≡ answer_of end };
+
+    fn from(end: End) -> Answer {
+        match end {
+            Ok(Activity::Running) => Answer::Running,
+            Ok(Activity::Stopped) => Answer::Stopped,
+            Err(f) => Answer::Faulted(f),
         }
     }
 }
 
-impl Answer {
-    // Paper 01's number.
-    pub fn number(self) -> u32
-        ensures { result ≡ number_of self }
-    {
-        match self {
+// Paper 01's number.
+impl From<Answer> for u32 {
+    ghost from_gives = { λ answer number. number ≡ number_of answer };
+
+    fn from(answer: Answer) -> u32 {
+        match answer {
             Answer::Running => 0,
             Answer::Stopped => 1,
-            Answer::Faulted(f) => f.number(),
+            Answer::Faulted(f) => u32::from(f),
             Answer::RamLength => 31,
             Answer::BudgetLimit => 32,
             Answer::BlockRule => 34,

@@ -1,11 +1,9 @@
 -- A state, written to a block and read back, is the same state, and the block is valid.
 -- Assumes nothing.
-use Rattle.std.proofs.Common.{◌≡◌, ℕ, ◌+◌, ◌*◌, ◌/◌, ◌%◌, ◌^◌, ◌<◌, ◌≤◌, Bool, true, false, cond, eqb, List, ◌++◌, length, get_or, sym, refl, ap, ◌∙◌, subst, arith, length-append, take_at, get_or-append-add, drop_at}
+use Rattle.std.proofs.Common.{◌≡◌, ℕ, ◌+◌, ◌*◌, ◌/◌, ◌%◌, ◌^◌, ◌<◌, ◌≤◌, Bool, true, false, cond, eqb, List, ◌++◌, length, get_or, sym, refl, ap, ◌∙◌, subst, arith, length-append, take_at, get_or-append-add, drop_at, Option, Some, None}
 use Rattle.values.specs.Results.{bit_of}
-use Rattle.gpu_core.specs.declared.Pending.{Pending}
-use Rattle.gpu_core.specs.declared.Pending.TheVariants.{None, At}
-use Rattle.gpu_core.specs.declared.Activity.{Activity}
-use Rattle.gpu_core.specs.declared.Activity.TheVariants.{Running, Stopped}
+use Rattle.answers.specs.declared.Activity.{Activity}
+use Rattle.answers.specs.declared.Activity.TheVariants.{Running, Stopped}
 use Rattle.machine.specs.declared.State.{State}
 use Rattle.gpu_core.specs.Types.{IsPending}
 use Rattle.machine.specs.State.{IsState}
@@ -32,9 +30,9 @@ bits : (z c n b a p m : ℕ) → z < 2 → c < 2 → n < 2 → b < 2 → a < 2 �
     → Bits (z + 2 * c + 4 * n + 16384 * b + 65536 * a + 131072 * p + 262144 * m) z c n b a p m
 bits z c n b a p m hz hc hn hb ha hp hm = omega arith
 
-pending_bit : (p : Pending) → waiting_of p < 2
+pending_bit : (p : Option ℕ) → waiting_of p < 2
 pending_bit None = omega arith
-pending_bit (At t) = omega arith
+pending_bit (Some t) = omega arith
 
 activity_bit_lem : (a : Activity) → activity_bit a < 2
 activity_bit_lem Running = omega arith
@@ -44,22 +42,22 @@ bit_in : (t : Bool) → eqb (bit_of t) 1 ≡ t
 bit_in true = refl
 bit_in false = refl
 
-pending_in_lem : (p : Pending) → cond (eqb (waiting_of p) 1) (At (target_of p)) None ≡ p
+pending_in_lem : (p : Option ℕ) → cond (eqb (waiting_of p) 1) (Some (target_of p)) None ≡ p
 pending_in_lem None = refl
-pending_in_lem (At t) = refl
+pending_in_lem (Some t) = refl
 
 activity_in_lem : (a : Activity) → cond (eqb (activity_bit a) 1) Running Stopped ≡ a
 activity_in_lem Running = refl
 activity_in_lem Stopped = refl
 
 -- "the target is zero if none is pending"
-target_rule : (p : Pending) → cond (eqb (waiting_of p) 1) true (eqb (target_of p) 0) ≡ true
+target_rule : (p : Option ℕ) → cond (eqb (waiting_of p) 1) true (eqb (target_of p) 0) ≡ true
 target_rule None = refl
-target_rule (At t) = refl
+target_rule (Some t) = refl
 
-target_small : (p : Pending) → IsPending p → target_of p < 2 ^ 32
+target_small : (p : Option ℕ) → IsPending p → target_of p < 2 ^ 32
 target_small None h = omega arith
-target_small (At t) h = h
+target_small (Some t) h = h
 
 -- the state of a status that was made of its bits
 module _ (s : State) where

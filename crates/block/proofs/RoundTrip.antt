@@ -1,9 +1,8 @@
 -- A valid block, read and written back, is the same block: what the status and the target tell is told again.
 -- Assumes nothing.
-use Rattle.std.proofs.Common.{◌≡◌, ℕ, ◌+◌, ◌*◌, ◌/◌, ◌%◌, ◌^◌, Bool, true, false, cond, eqb, List, get_or, sym, refl, ap, ◌∙◌, subst, arith, eqb-true}
+use Rattle.std.proofs.Common.{◌≡◌, ℕ, ◌+◌, ◌*◌, ◌/◌, ◌%◌, ◌^◌, Bool, true, false, cond, eqb, List, get_or, sym, refl, ap, ◌∙◌, subst, arith, eqb-true, Some, None}
 use Rattle.values.specs.Results.{bit_of}
-use Rattle.gpu_core.specs.declared.Pending.TheVariants.{None, At}
-use Rattle.gpu_core.specs.declared.Activity.TheVariants.{Running, Stopped}
+use Rattle.answers.specs.declared.Activity.TheVariants.{Running, Stopped}
 use Rattle.gpu_core.specs.Core.{waiting_of, target_of}
 use Rattle.machine.specs.declared.State.{State}
 use Rattle.values.specs.Results.{is_one}
@@ -35,11 +34,11 @@ valid status target e =
 target_back : (status target : ℕ) → Valid status target → target_of (pending_in status target) ≡ target
 target_back status target v = go (is_one (status / 2 ^ 17)) v.rule
   where
-    go : (t : Bool) → cond t true (eqb target 0) ≡ true → target_of (cond t (At target) None) ≡ target
+    go : (t : Bool) → cond t true (eqb target 0) ≡ true → target_of (cond t (Some target) None) ≡ target
     go true e = refl
     go false e = sym (eqb-true target 0 e)
 
-waiting_bit : (t : Bool) (target : ℕ) → waiting_of (cond t (At target) None) ≡ bit_of t
+waiting_bit : (t : Bool) (target : ℕ) → waiting_of (cond t (Some target) None) ≡ bit_of t
 waiting_bit true target = refl
 waiting_bit false target = refl
 

@@ -1,12 +1,10 @@
 -- The state block: "69 longs, high byte first. Bank 0, bank 1, program counter, pending target, remainder, accumulator, status."
-use Rattle.std.specs.Prelude.{ℕ, zero, suc, ◌+◌, ◌*◌, ◌/◌, ◌%◌, ◌^◌, Bool, true, false, cond, List, [], ◌∷◌, ◌++◌, take, drop, ◌==◌, slice_index, slice_index_or}
+use Rattle.std.specs.Prelude.{ℕ, zero, suc, ◌+◌, ◌*◌, ◌/◌, ◌%◌, ◌^◌, Bool, true, false, cond, List, [], ◌∷◌, ◌++◌, take, drop, ◌==◌, slice_index, slice_index_or, Option, Some, None}
 use Rattle.values.specs.Results.{bit_of}
 use Rattle.memory.specs.Memory.{long_at, put_long}
 use Rattle.gpu_core.specs.Core.{waiting_of, target_of}
-use Rattle.gpu_core.specs.declared.Pending.{Pending}
-use Rattle.gpu_core.specs.declared.Pending.TheVariants.{None, At}
-use Rattle.gpu_core.specs.declared.Activity.{Activity}
-use Rattle.gpu_core.specs.declared.Activity.TheVariants.{Running, Stopped}
+use Rattle.answers.specs.declared.Activity.{Activity}
+use Rattle.answers.specs.declared.Activity.TheVariants.{Running, Stopped}
 use Rattle.machine.specs.declared.State.{State}
 use Rattle.values.specs.Results.{is_one}
 
@@ -58,8 +56,8 @@ abbrev pub is_valid : List ℕ → Bool
 is_valid block = valid_of (block_long block status_index) (block_long block target_index)
 
 -- From the longs of a block to the state.
-abbrev pub pending_in : ℕ → ℕ → Pending
-pending_in status target = cond (is_one (status / 2 ^ 17)) (At target) None
+abbrev pub pending_in : ℕ → ℕ → Option ℕ
+pending_in status target = cond (is_one (status / 2 ^ 17)) (Some target) None
 
 abbrev pub activity_in : ℕ → Activity
 activity_in status = cond (is_one (status / 2 ^ 16)) Running Stopped

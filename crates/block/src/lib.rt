@@ -6,7 +6,7 @@ ghost use Rattle.values.specs.Results.{bit_of};
 ghost use Rattle.block.specs.Block.{block_length, pc_index, longs, put_longs, is_valid, pending_in, activity_in, state_at, activity_bit, status_of, rest_of, put_state};
 ghost use Rattle.block.specs.RoundTrip.{RestoresBlock, RestoresState};
 
-use gpu_core::{Activity, Pending, target, waiting};
+use answers::Activity;
 use machine::State;
 use memory::{long_at, put_long};
 
@@ -51,22 +51,16 @@ fn read_bank(block: &[u8], at: usize) -> [u32; 32]
     ensures { result ≡ longs block.now at 32 }
 {
     let mut b = [0u32; 32];
-    let mut i: usize = 0;
-    while i < 32 {
+    for i in 0..32 {
         b[i] = long_at(block, at + 4 * i);
-        i += 1;
     }
     b
 }
 
-fn pending(status: u32, target: u32) -> Pending
+fn pending(status: u32, target: u32) -> Option<u32>
     ensures { result ≡ pending_in status target }
 {
-    if status / 131072 % 2 == 1 {
-        Pending::At(target)
-    } else {
-        Pending::None
-    }
+    (status / 131072 % 2 == 1).then_some(target)
 }
 
 fn activity(status: u32) -> Activity
@@ -111,10 +105,8 @@ fn write_longs(block: &mut [u8], at: usize, l: &[u32])
     requires { at + 4 * length l.now ≤ length block.old }
     ensures { block.new ≡ put_longs block.old at l.now }
 {
-    let mut i: usize = 0;
-    while i < l.len() {
+    for i in 0..l.len() {
         put_long(block, at + 4 * i, l[i]);
-        i += 1;
     }
 }
 
@@ -131,20 +123,18 @@ fn activity_bit(a: Activity) -> u32
 fn bit_at(place: u32, on: bool) -> u32
     ensures { (result ≡ place * bit_of on) × (result ≤ place) }
 {
-    if on { place } else { 0 }
+    place * u32::from(on)
 }
 
 fn status(s: State) -> u32
     ensures { result ≡ status_of s }
 {
-    let p = s.pending;
-    let a = s.activity;
     bit_at(1, s.z)
         + bit_at(2, s.c)
         + bit_at(4, s.n)
         + bit_at(16384, s.second)
-        + 65536 * activity_bit(a)
-        + 131072 * waiting(p)
+        + 65536 * activity_bit(s.activity)
+        + 131072 * u32::from(s.pending.is_some())
         + bit_at(262144, s.mode)
 }
 
@@ -152,9 +142,8 @@ fn write_rest(block: &mut [u8], s: State)
     requires { block_length ≤ length block.old }
     ensures { block.new ≡ put_longs block.old (4 * pc_index) (rest_of s) }
 {
-    let p = s.pending;
     put_long(block, PC, s.pc);
-    put_long(block, TARGET, target(p));
+    put_long(block, TARGET, s.pending.unwrap_or(0));
     put_long(block, REMAINDER, s.remainder);
     put_long(block, ACCUMULATOR, s.accumulator);
     put_long(block, STATUS, status(s));
@@ -166,9 +155,7 @@ pub fn write(block: &mut [u8], s: State)
     ensures block_after { block.new ≡ put_state block.old s }
     ensures restores_state { RestoresState s block.new }
 {
-    let b0 = s.bank0;
-    let b1 = s.bank1;
-    write_longs(block, 0, &b0);
-    write_longs(block, BANK1, &b1);
+    write_longs(block, 0, &s.bank0);
+    write_longs(block, BANK1, &s.bank1);
     write_rest(block, s);
 }

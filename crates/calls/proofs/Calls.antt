@@ -1,7 +1,7 @@
 -- Every call of a display is safe. A call runs the state that the block holds, and the block that it leaves holds the state that
 -- the run left; so what demand 3 says of runs, it says of calls.
 -- Assumes nothing.
-use Rattle.std.proofs.Common.{◌≡◌, ℕ, ◌<◌, ◌≤◌, true, ltb, List, [], ◌∷◌, length, take, sym, refl, ap, ◌∙◌, subst, arith, ltb-false, ltb-true, le-ltb, lt-ltb, eq-eqb}
+use Rattle.std.proofs.Common.{◌≡◌, ℕ, ◌<◌, ◌≤◌, true, ltb, List, [], ◌∷◌, length, take, sym, refl, ap, ◌∙◌, subst, arith, ltb-false, ltb-true, le-ltb, lt-ltb, eq-eqb, Ok, Err}
 use Rattle.processor.specs.Processor.{gpu}
 use Rattle.processor.proofs.Instances.{gpu_sound}
 use Rattle.answers.specs.declared.Answer.TheVariants.{BudgetLimit}
@@ -11,8 +11,8 @@ use Rattle.machine.specs.declared.State.{State}
 use Rattle.machine.specs.State.{IsState}
 use Rattle.machine.specs.Run.{budget_limit, refused, run_of}
 use Rattle.machine.proofs.Laws.{refused_budget, left}
-use Rattle.verdicts.specs.declared.Verdict.{Verdict}
-use Rattle.verdicts.specs.declared.Verdict.TheVariants.{Admitted, RamLength, CodeLength, Broken}
+use Rattle.verdicts.specs.declared.Refusal.TheVariants.{RamLength, CodeLength, Broken}
+use Rattle.verdicts.specs.Verdicts.{Verdict}
 use Rattle.rules.specs.Rules.{IsStart}
 use Rattle.rules.specs.Safety.{Loaded, after_runs, Kept, Safe}
 use Rattle.values.proofs.Booleans.{by}
@@ -24,11 +24,11 @@ use Rattle.calls.specs.Display.{after_calls, HandedOver, SafeCall, Display}
 use Rattle.calls.proofs.Typed.{state_typed}
 
 -- a reply of 0 admits
-admits : (v : Verdict) → check_reply v ≡ 0 → v ≡ Admitted
-admits Admitted e = refl
-admits RamLength e = absurd (omega arith)
-admits CodeLength e = absurd (omega arith)
-admits (Broken r a) e = absurd (omega arith)
+admits : (v : Verdict) → check_reply v ≡ 0 → v ≡ Ok tt
+admits (Ok u) e = refl
+admits (Err RamLength) e = absurd (omega arith)
+admits (Err CodeLength) e = absurd (omega arith)
+admits (Err (Broken r a)) e = absurd (omega arith)
 
 -- the block holds the state s
 record Linked (memory : Memory) (block : List ℕ) (s : State) : Type 0 where

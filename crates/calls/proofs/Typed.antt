@@ -1,8 +1,7 @@
 -- What demand 3 assumes of a state is so in every call: a block of bytes holds a state whose numbers have 32 bits.
 -- Assumes nothing.
-use Rattle.std.proofs.Common.{ℕ, zero, suc, ◌+◌, ◌/◌, ◌^◌, ◌<◌, Bool, true, false, cond, List, get_or, arith}
+use Rattle.std.proofs.Common.{ℕ, zero, suc, ◌+◌, ◌/◌, ◌^◌, ◌<◌, Bool, true, false, cond, List, get_or, arith, Some, None}
 use Rattle.memory.specs.Memory.{long_at}
-use Rattle.gpu_core.specs.declared.Pending.TheVariants.{None, At}
 use Rattle.gpu_core.specs.Types.{IsBytes, IsBank, IsPending}
 use Rattle.machine.specs.State.{IsState}
 use Rattle.values.specs.Results.{is_one}
@@ -23,7 +22,7 @@ module _ (block : List ℕ) (h : IsBytes block) where
   bank : (at : ℕ) → IsBank (longs block at 32)
   bank at = record { registers = longs_length block at 32; words = words at 32 }
 
-  target : (t : Bool) (n : ℕ) → n < 2 ^ 32 → IsPending (cond t (At n) None)
+  target : (t : Bool) (n : ℕ) → n < 2 ^ 32 → IsPending (cond t (Some n) None)
   target true n small = small
   target false n small = tt
 

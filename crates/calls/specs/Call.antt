@@ -3,8 +3,7 @@ use Rattle.std.specs.Prelude.{ℕ, ◌+◌, ◌*◌, cond, List, length, ◌==�
 use Rattle.processor.specs.Processor.{gpu}
 use Rattle.answers.specs.Answers.{number_of}
 use Rattle.answers.specs.declared.Answer.TheVariants.{RamLength, BudgetLimit, BlockRule, BlockLength}
-use Rattle.verdicts.specs.declared.Verdict.{Verdict}
-use Rattle.verdicts.specs.Verdicts.{verdict_number, verdict_address}
+use Rattle.verdicts.specs.Verdicts.{Verdict, verdict_number, verdict_address}
 use Rattle.gpu_core.specs.Machine.{Memory}
 use Rattle.machine.specs.Run.{Result, run_of, budget_limit}
 use Rattle.block.specs.Block.{block_length, is_valid, state_at, put_state}

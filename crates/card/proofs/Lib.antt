@@ -1,3 +1,1 @@
 pub mod Example
-pub mod Lines
-pub mod Room

@@ -1,5 +1,5 @@
 -- The run program: "It reads standard input as RAM, starts at F03000h, running, all else zero, budget 1,000,000".
-use Rattle.std.specs.Prelude.{ℕ, List, ◌++◌, length, drop}
+use Rattle.std.specs.Prelude.{ℕ, List}
 use Rattle.processor.specs.Processor.{gpu}
 use Rattle.answers.specs.Answers.{number_of}
 use Rattle.gpu_core.specs.Core.{flag_register_of}
@@ -15,24 +15,20 @@ abbrev pub card_of : Ran → Card
 card_of r =
     record { answer = number_of r.answer; steps = r.steps; pc = r.state.pc; flags = flag_register_of (core_of r.state); remainder = r.state.remainder; accumulator = r.state.accumulator }
 
--- The text's length, the array that holds it at its start, and memory after the run.
+-- The text, and memory after the run.
 pub record Printed : Type 0 where
-  pub count : ℕ
-  pub out : List ℕ
+  pub text : List ℕ
   pub memory : Memory
 
-abbrev pub printed : ℕ → List ℕ → Memory → Printed
-printed count out memory = record { count = count; out = out; memory = memory }
+abbrev pub printed : List ℕ → Memory → Printed
+printed text memory = record { text = text; memory = memory }
 
-abbrev pub printed_as : List ℕ → List ℕ → Memory → Printed
-printed_as text out memory = printed (length text) (text ++ drop (length text) out) memory
-
-abbrev pub printed_from : Result → List ℕ → Printed
-printed_from r out = printed_as (card_text (card_of r.ran)) out r.memory
+abbrev pub printed_from : Result → Printed
+printed_from r = printed (card_text (card_of r.ran)) r.memory
 
 abbrev pub image_budget : ℕ
 image_budget = 1000000
 
 -- "Bad length prints answer 31 and the start state": a run that is refused leaves the state as it was.
-unfoldable pub printed_of : Memory → List ℕ → Printed
-printed_of memory out = printed_from (run_of gpu memory (start_state gpu) image_budget) out
+unfoldable pub printed_of : Memory → Printed
+printed_of memory = printed_from (run_of gpu memory (start_state gpu) image_budget)

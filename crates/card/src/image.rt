@@ -6,7 +6,8 @@ ghost use Rattle.machine.specs.State.{start_state};
 ghost use Rattle.card.specs.Image.{card_of, printed, printed_of};
 
 use crate::{Card, write};
-use gpu_core::{Activity, Pending};
+use answers::Activity;
+use arrayvec::ArrayVec;
 use machine::{Ran, State, run};
 use processor::Gpu;
 
@@ -25,7 +26,7 @@ fn start() -> State
         n: false,
         c: false,
         pc: Gpu::BASE,
-        pending: Pending::None,
+        pending: None,
         remainder: 0,
         mode: false,
         accumulator: 0,
@@ -37,10 +38,9 @@ fn start() -> State
 fn told(r: Ran) -> Card
     ensures { result ≡ card_of r }
 {
-    let answer = r.answer;
     let s = r.state;
     Card {
-        answer: answer.number(),
+        answer: u32::from(r.answer),
         steps: r.steps,
         pc: s.pc,
         flags: s.flag_register(),
@@ -49,10 +49,10 @@ fn told(r: Ran) -> Card
     }
 }
 
-// Runs an image, which is lent as RAM, and writes its card; the text's length is the result.
-pub fn print(ram: &mut [u8], out: &mut [u8; 128]) -> usize
-    ensures { printed result out.new (lent ram.new) ≡ printed_of (lent ram.old) out.old }
+// Runs an image, which is lent as RAM; its card is the result.
+pub fn print(ram: &mut [u8]) -> ArrayVec<u8, 128>
+    ensures { printed result.items (lent ram.new) ≡ printed_of (lent ram.old) }
 {
     let r = run(ram, start(), BUDGET);
-    write(told(r), out)
+    write(told(r))
 }

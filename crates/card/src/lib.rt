@@ -1,9 +1,10 @@
 // The text of the run card: what the run program prints of a run.
 #![tactic(auto)]
 
-ghost use Rattle.text.specs.Wrote.{Begins};
+ghost use Rattle.std.specs.Prelude.{◌≡◌};
 ghost use Rattle.card.specs.Text.{card_text};
 
+use arrayvec::ArrayVec;
 use lines::{decimal_line, hex_line};
 
 pub mod image;
@@ -19,15 +20,17 @@ pub struct Card {
     pub accumulator: u32,
 }
 
-// Writes the card's text at the start of the array, and answers the text's length.
-pub fn write(card: Card, out: &mut [u8; 128]) -> usize
-    ensures { Begins out.old (card_text card) out.new result }
+// The card's text.
+#[tactic(auto, unfolding(crate::specs::Text::card_text, text::specs::Bytes::bytes))]
+pub fn write(card: Card) -> ArrayVec<u8, 128>
+    ensures { result.items ≡ card_text card }
 {
-    // Each local is the place where its line starts.
-    let steps = decimal_line(out, 0, b"answer=", card.answer);
-    let pc = decimal_line(out, steps, b"steps=", card.steps);
-    let flags = hex_line(out, pc, b"pc=", card.pc);
-    let remainder = hex_line(out, flags, b"flags=", card.flags);
-    let accumulator = hex_line(out, remainder, b"remain=", card.remainder);
-    hex_line(out, accumulator, b"acc=", card.accumulator)
+    let mut text = ArrayVec::new();
+    decimal_line(&mut text, b"answer=", card.answer);
+    decimal_line(&mut text, b"steps=", card.steps);
+    hex_line(&mut text, b"pc=", card.pc);
+    hex_line(&mut text, b"flags=", card.flags);
+    hex_line(&mut text, b"remain=", card.remainder);
+    hex_line(&mut text, b"acc=", card.accumulator);
+    text
 }

@@ -45,61 +45,59 @@ pub fn class_of(i: Instr) -> Class
     ensures { result ≡ class_of i }
 {
     match i {
-        Instr::Add(s, d) => Class::Add(s, d),
-        Instr::Addc(_, d) => Class::Write(d),
-        Instr::Addq(q, d) => Class::AddQuick(quick(q), d),
-        Instr::Addqt(q, d) => Class::AddQuick(quick(q), d),
-        Instr::Sub(_, d) => Class::Write(d),
-        Instr::Subc(_, d) => Class::Write(d),
-        Instr::Subq(q, d) => Class::SubQuick(quick(q), d),
-        Instr::Subqt(q, d) => Class::SubQuick(quick(q), d),
-        Instr::Neg(d) => Class::Write(d),
-        Instr::And(s, d) => Class::And(s, d),
-        Instr::Or(_, d) => Class::Write(d),
-        Instr::Xor(_, d) => Class::Write(d),
-        Instr::Not(d) => Class::Write(d),
-        Instr::Btst(_, _) => Class::Quiet,
-        Instr::Bset(_, d) => Class::Write(d),
-        Instr::Bclr(_, d) => Class::Write(d),
-        Instr::Mult(_, d) => Class::Write(d),
-        Instr::Imult(_, d) => Class::Write(d),
-        Instr::Imultn(_, _) => Class::Quiet,
-        Instr::Resmac(d) => Class::Write(d),
-        Instr::Imacn(_, _) => Class::Quiet,
-        Instr::Div(_, d) => Class::Write(d),
-        Instr::Abs(d) => Class::Write(d),
-        Instr::Sh(_, d) => Class::Write(d),
-        Instr::Shlq(q, d) => Class::Shlq(quick(q), d),
-        Instr::Shrq(_, d) => Class::Write(d),
-        Instr::Sha(_, d) => Class::Write(d),
-        Instr::Sharq(_, d) => Class::Write(d),
-        Instr::Ror(_, d) => Class::Write(d),
-        Instr::Rorq(_, d) => Class::Write(d),
-        Instr::Cmp(_, _) => Class::Quiet,
-        Instr::Cmpq(_, _) => Class::Quiet,
-        Instr::Sat8(d) => Class::Write(d),
-        Instr::Sat16(d) => Class::Write(d),
-        Instr::Move(s, d) => Class::Move(s, d),
         Instr::Moveq(u, d) => Class::Moveq(u % 32, d),
-        Instr::Moveta(_, _) => Class::Quiet,
-        Instr::Movefa(_, d) => Class::Write(d),
         Instr::Movei(d) => Class::Movei(d),
+        Instr::Move(s, d) => Class::Move(s, d),
+        Instr::And(s, d) => Class::And(s, d),
+        Instr::Add(s, d) => Class::Add(s, d),
+        Instr::Addq(q, d) | Instr::Addqt(q, d) => Class::AddQuick(quick(q), d),
+        Instr::Subq(q, d) | Instr::Subqt(q, d) => Class::SubQuick(quick(q), d),
+        Instr::Shlq(q, d) => Class::Shlq(quick(q), d),
         Instr::Load(s, d) => Class::Load(Address::At(s), d),
         Instr::LoadR14n(q, d) => Class::Load(Address::Offset(14, quick_bytes(q)), d),
         Instr::LoadR15n(q, d) => Class::Load(Address::Offset(15, quick_bytes(q)), d),
+        Instr::LoadR14r(s, d) => Class::Load(Address::Indexed(14, s), d),
+        Instr::LoadR15r(s, d) => Class::Load(Address::Indexed(15, s), d),
         Instr::Store(s, d) => Class::Store(Address::At(s), d),
         Instr::StoreR14n(q, d) => Class::Store(Address::Offset(14, quick_bytes(q)), d),
         Instr::StoreR15n(q, d) => Class::Store(Address::Offset(15, quick_bytes(q)), d),
+        Instr::StoreR14r(s, d) => Class::Store(Address::Indexed(14, s), d),
+        Instr::StoreR15r(s, d) => Class::Store(Address::Indexed(15, s), d),
         Instr::MovePc(d) => Class::MovePc(d),
         Instr::Jump(s, c) => Class::Jump(s, c),
         Instr::Jr(n, c) => Class::Jr(n, c),
-        Instr::Mtoi(_, d) => Class::Write(d),
-        Instr::Normi(_, d) => Class::Write(d),
-        Instr::Nop => Class::Quiet,
-        Instr::LoadR14r(s, d) => Class::Load(Address::Indexed(14, s), d),
-        Instr::LoadR15r(s, d) => Class::Load(Address::Indexed(15, s), d),
-        Instr::StoreR14r(s, d) => Class::Store(Address::Indexed(14, s), d),
-        Instr::StoreR15r(s, d) => Class::Store(Address::Indexed(15, s), d),
-        Instr::Sat24(d) => Class::Write(d),
+        Instr::Btst(..)
+        | Instr::Cmp(..)
+        | Instr::Cmpq(..)
+        | Instr::Imultn(..)
+        | Instr::Imacn(..)
+        | Instr::Moveta(..)
+        | Instr::Nop => Class::Quiet,
+        Instr::Addc(_, d)
+        | Instr::Sub(_, d)
+        | Instr::Subc(_, d)
+        | Instr::Neg(d)
+        | Instr::Or(_, d)
+        | Instr::Xor(_, d)
+        | Instr::Not(d)
+        | Instr::Bset(_, d)
+        | Instr::Bclr(_, d)
+        | Instr::Mult(_, d)
+        | Instr::Imult(_, d)
+        | Instr::Resmac(d)
+        | Instr::Div(_, d)
+        | Instr::Abs(d)
+        | Instr::Sh(_, d)
+        | Instr::Shrq(_, d)
+        | Instr::Sha(_, d)
+        | Instr::Sharq(_, d)
+        | Instr::Ror(_, d)
+        | Instr::Rorq(_, d)
+        | Instr::Sat8(d)
+        | Instr::Sat16(d)
+        | Instr::Sat24(d)
+        | Instr::Movefa(_, d)
+        | Instr::Mtoi(_, d)
+        | Instr::Normi(_, d) => Class::Write(d),
     }
 }

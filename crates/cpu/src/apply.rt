@@ -2,40 +2,53 @@
 ghost use Rattle.std.specs.Prelude.{◌≡◌, length};
 ghost use Rattle.processor.specs.Processor.{gpu};
 ghost use Rattle.gpu_core.specs.Machine.{machine_with, lent};
-ghost use Rattle.outcome.specs.Outcome.{outcome_with};
+ghost use Rattle.outcome.specs.Outcome.{moved_with, outcome_with};
 ghost use Rattle.cpu.specs.Step.{apply_of};
 
+use answers::{Activity, End};
 use effect::Effect;
 use gpu_core::Core;
 use jumps::jump;
-use loads::{counter, immediate, load, receive, receive_next};
-use outcome::{Moved, done, fault};
+use loads::{counter, immediate, load};
+use outcome::done;
 use registers::{get, put};
 use stores::store;
 
-// The effect's changes to the active bank, the other bank, RAM and the core.
-pub fn apply(a: &mut [u32; 32], o: &mut [u32; 32], k: Core, ram: &mut [u8], e: Effect) -> Moved
+// The effect's changes to the active bank, the other bank, the core and RAM.
+#[tactic(auto, unfolding(crate::specs::Step::apply_of))]
+pub fn apply(a: &mut [u32; 32], o: &mut [u32; 32], k: &mut Core, ram: &mut [u8], e: Effect) -> End
     requires { length ram.old ≡ gpu.size }
-    ensures { outcome_with result a.new o.new (lent ram.new) ≡ apply_of gpu (machine_with a.old o.old k (lent ram.old)) e }
+    ensures { outcome_with (moved_with result k.new) a.new o.new (lent ram.new) ≡ apply_of gpu (machine_with a.old o.old k.old (lent ram.old)) e }
 {
     match e {
-        Effect::Refused(f) => fault(f, k),
         Effect::Nothing => done(k),
         Effect::Write(d, r) => {
             put(a, d, r.value);
-            done(k.with_flags(r.flags()))
+            k.flags = r.flags();
+            done(k)
         }
         Effect::Keep(d, v) => {
             put(a, d, v);
             done(k)
         }
-        Effect::Flags(f) => done(k.with_flags(f)),
+        Effect::Flags(f) => {
+            k.flags = f;
+            done(k)
+        }
         Effect::Divide(d, q) => {
             put(a, d, q.quotient);
-            done(k.with_remainder(q.remainder))
+            k.remainder = q.remainder;
+            done(k)
         }
-        Effect::Product(r) => done(k.with_accumulator(r.value).with_flags(r.flags())),
-        Effect::Accumulate(v) => done(k.with_accumulator(v)),
+        Effect::Product(r) => {
+            k.accumulator = r.value;
+            k.flags = r.flags();
+            done(k)
+        }
+        Effect::Accumulate(v) => {
+            k.accumulator = v;
+            done(k)
+        }
         Effect::ToOther(d, v) => {
             put(o, d, v);
             done(k)
@@ -44,10 +57,20 @@ pub fn apply(a: &mut [u32; 32], o: &mut [u32; 32], k: Core, ram: &mut [u8], e: E
             put(a, d, get(o, s));
             done(k)
         }
-        Effect::Immediate(d) => receive_next(a, k, k.skipped(), d, immediate(k, ram)),
-        Effect::Counter(d) => receive(a, k, d, counter(k)),
+        Effect::Immediate(d) => {
+            put(a, d, immediate(k, ram)?);
+            k.skip();
+            Ok(Activity::Running)
+        }
+        Effect::Counter(d) => {
+            put(a, d, counter(k)?);
+            done(k)
+        }
         Effect::Jump(condition, target) => jump(k, condition, target),
-        Effect::Load(d, address) => { receive(a, k, d, load(k, ram, address)) }
+        Effect::Load(d, address) => {
+            put(a, d, load(k, ram, address)?);
+            done(k)
+        }
         Effect::Store(address, v) => store(a, o, k, ram, address, v),
     }
 }

@@ -1,96 +1,88 @@
 // Words to instructions.
 #![tactic(auto)]
 
-ghost use Rattle.std.specs.Prelude.{◌≡◌, cond};
-ghost use Rattle.isa.specs.declared.Decoded.TheVariants.{Built};
+ghost use Rattle.std.specs.Prelude.{◌≡◌, cond, Ok};
 ghost use Rattle.isa.specs.Words.{no_instruction, decoded_at, decode_of};
 ghost use Rattle.isa.specs.RoundTrip.{Decodes};
 
 use answers::Fault;
-use isa::{Decoded, Instr};
+use isa::Instr;
 
 // An instruction that is built only where a field is zero.
-fn only(zero: bool, i: Instr) -> Decoded
-    ensures { result ≡ cond zero (Built i) no_instruction }
+fn only(zero: bool, i: Instr) -> Result<Instr, Fault>
+    ensures { result ≡ cond zero (Ok i) no_instruction }
 {
-    if zero {
-        Decoded::Built(i)
-    } else {
-        Decoded::Refused(Fault::NotBuilt)
-    }
+    if zero { Ok(i) } else { Err(Fault::NotBuilt) }
 }
 
 // What three fields are.
-fn decoded_at(op: u32, s: u32, d: u32) -> Decoded
+#[tactic(auto, unfolding(isa::specs::Words::instruction_at, isa::specs::Words::decoded_at))]
+fn decoded_at(op: u32, s: u32, d: u32) -> Result<Instr, Fault>
     ensures { result ≡ decoded_at op s d }
 {
     match op {
-        0 => Decoded::Built(Instr::Add(s, d)),
-        1 => Decoded::Built(Instr::Addc(s, d)),
-        2 => Decoded::Built(Instr::Addq(s, d)),
-        3 => Decoded::Built(Instr::Addqt(s, d)),
-        4 => Decoded::Built(Instr::Sub(s, d)),
-        5 => Decoded::Built(Instr::Subc(s, d)),
-        6 => Decoded::Built(Instr::Subq(s, d)),
-        7 => Decoded::Built(Instr::Subqt(s, d)),
+        0 => Ok(Instr::Add(s, d)),
+        1 => Ok(Instr::Addc(s, d)),
+        2 => Ok(Instr::Addq(s, d)),
+        3 => Ok(Instr::Addqt(s, d)),
+        4 => Ok(Instr::Sub(s, d)),
+        5 => Ok(Instr::Subc(s, d)),
+        6 => Ok(Instr::Subq(s, d)),
+        7 => Ok(Instr::Subqt(s, d)),
         8 => only(s == 0, Instr::Neg(d)),
-        9 => Decoded::Built(Instr::And(s, d)),
-        10 => Decoded::Built(Instr::Or(s, d)),
-        11 => Decoded::Built(Instr::Xor(s, d)),
+        9 => Ok(Instr::And(s, d)),
+        10 => Ok(Instr::Or(s, d)),
+        11 => Ok(Instr::Xor(s, d)),
         12 => only(s == 0, Instr::Not(d)),
-        13 => Decoded::Built(Instr::Btst(s, d)),
-        14 => Decoded::Built(Instr::Bset(s, d)),
-        15 => Decoded::Built(Instr::Bclr(s, d)),
-        16 => Decoded::Built(Instr::Mult(s, d)),
-        17 => Decoded::Built(Instr::Imult(s, d)),
-        18 => Decoded::Built(Instr::Imultn(s, d)),
+        13 => Ok(Instr::Btst(s, d)),
+        14 => Ok(Instr::Bset(s, d)),
+        15 => Ok(Instr::Bclr(s, d)),
+        16 => Ok(Instr::Mult(s, d)),
+        17 => Ok(Instr::Imult(s, d)),
+        18 => Ok(Instr::Imultn(s, d)),
         19 => only(s == 0, Instr::Resmac(d)),
-        20 => Decoded::Built(Instr::Imacn(s, d)),
-        21 => Decoded::Built(Instr::Div(s, d)),
+        20 => Ok(Instr::Imacn(s, d)),
+        21 => Ok(Instr::Div(s, d)),
         22 => only(s == 0, Instr::Abs(d)),
-        23 => Decoded::Built(Instr::Sh(s, d)),
-        24 => Decoded::Built(Instr::Shlq(s, d)),
-        25 => Decoded::Built(Instr::Shrq(s, d)),
-        26 => Decoded::Built(Instr::Sha(s, d)),
-        27 => Decoded::Built(Instr::Sharq(s, d)),
-        28 => Decoded::Built(Instr::Ror(s, d)),
-        29 => Decoded::Built(Instr::Rorq(s, d)),
-        30 => Decoded::Built(Instr::Cmp(s, d)),
-        31 => Decoded::Built(Instr::Cmpq(s, d)),
+        23 => Ok(Instr::Sh(s, d)),
+        24 => Ok(Instr::Shlq(s, d)),
+        25 => Ok(Instr::Shrq(s, d)),
+        26 => Ok(Instr::Sha(s, d)),
+        27 => Ok(Instr::Sharq(s, d)),
+        28 => Ok(Instr::Ror(s, d)),
+        29 => Ok(Instr::Rorq(s, d)),
+        30 => Ok(Instr::Cmp(s, d)),
+        31 => Ok(Instr::Cmpq(s, d)),
         32 => only(s == 0, Instr::Sat8(d)),
         33 => only(s == 0, Instr::Sat16(d)),
-        34 => Decoded::Built(Instr::Move(s, d)),
-        35 => Decoded::Built(Instr::Moveq(s, d)),
-        36 => Decoded::Built(Instr::Moveta(s, d)),
-        37 => Decoded::Built(Instr::Movefa(s, d)),
+        34 => Ok(Instr::Move(s, d)),
+        35 => Ok(Instr::Moveq(s, d)),
+        36 => Ok(Instr::Moveta(s, d)),
+        37 => Ok(Instr::Movefa(s, d)),
         38 => only(s == 0, Instr::Movei(d)),
-        41 => Decoded::Built(Instr::Load(s, d)),
-        43 => Decoded::Built(Instr::LoadR14n(s, d)),
-        44 => Decoded::Built(Instr::LoadR15n(s, d)),
-        47 => Decoded::Built(Instr::Store(s, d)),
-        49 => Decoded::Built(Instr::StoreR14n(s, d)),
-        50 => Decoded::Built(Instr::StoreR15n(s, d)),
+        41 => Ok(Instr::Load(s, d)),
+        43 => Ok(Instr::LoadR14n(s, d)),
+        44 => Ok(Instr::LoadR15n(s, d)),
+        47 => Ok(Instr::Store(s, d)),
+        49 => Ok(Instr::StoreR14n(s, d)),
+        50 => Ok(Instr::StoreR15n(s, d)),
         51 => only(s == 0, Instr::MovePc(d)),
-        52 => Decoded::Built(Instr::Jump(s, d)),
-        53 => Decoded::Built(Instr::Jr(s, d)),
-        55 => Decoded::Built(Instr::Mtoi(s, d)),
-        56 => Decoded::Built(Instr::Normi(s, d)),
-        57 => if s == 0 {
-            only(d == 0, Instr::Nop)
-        } else {
-            Decoded::Refused(Fault::NotBuilt)
-        },
-        58 => Decoded::Built(Instr::LoadR14r(s, d)),
-        59 => Decoded::Built(Instr::LoadR15r(s, d)),
-        60 => Decoded::Built(Instr::StoreR14r(s, d)),
-        61 => Decoded::Built(Instr::StoreR15r(s, d)),
+        52 => Ok(Instr::Jump(s, d)),
+        53 => Ok(Instr::Jr(s, d)),
+        55 => Ok(Instr::Mtoi(s, d)),
+        56 => Ok(Instr::Normi(s, d)),
+        57 => only(s == 0 && d == 0, Instr::Nop),
+        58 => Ok(Instr::LoadR14r(s, d)),
+        59 => Ok(Instr::LoadR15r(s, d)),
+        60 => Ok(Instr::StoreR14r(s, d)),
+        61 => Ok(Instr::StoreR15r(s, d)),
         62 => only(s == 0, Instr::Sat24(d)),
-        _ => Decoded::Refused(Fault::NotBuilt),
+        _ => Err(Fault::NotBuilt),
     }
 }
 
 // The instruction that a word is, if it is built.
-pub fn decode(word: u16) -> Decoded
+pub fn decode(word: u16) -> Result<Instr, Fault>
     ensures value { result ≡ decode_of word }
     ensures decodes { Decodes word result }
 {

@@ -25,7 +25,6 @@ pub record OperandsFit (x : Operands) : Type 0 where
   pub c_fits : x.c < 2
 
 abbrev pub EffectFits : Effect → Type 0
-EffectFits (E.Refused f) = Unit {0}
 EffectFits E.Nothing = Unit {0}
 EffectFits (E.Write d r) = Fit r
 EffectFits (E.Keep d n) = n < 2 ^ 32

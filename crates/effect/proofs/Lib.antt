@@ -1,3 +1,2 @@
-pub mod Opcodes
 pub mod Widths
 pub mod EffectWidths

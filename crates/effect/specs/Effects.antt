@@ -1,11 +1,9 @@
 -- What each instruction does, from what it reads: one line an instruction, in the order of the opcodes.
 -- In a JR or a JUMP the destination field is the condition; in a STORE it names the register that is stored.
-use Rattle.std.specs.Prelude.{ℕ, ◌+◌, ◌*◌, ◌%◌, ◌^◌, Bool, cond, List, slice_index}
+use Rattle.std.specs.Prelude.{ℕ, ◌+◌, ◌*◌, ◌%◌, ◌^◌, List, slice_index, Result, Ok, Err}
 use Rattle.isa.specs.declared.Instr.{Instr}
 use Rattle.isa.specs.declared.Instr.TheVariants.{Add, Addc, Addq, Addqt, Sub, Subc, Subq, Subqt, Neg, And, Or, Xor, Not, Btst, Bset, Bclr, Mult, Imult, Imultn, Resmac, Imacn, Div, Abs, Sh, Shlq, Shrq, Sha, Sharq, Ror, Rorq, Cmp, Cmpq, Sat8, Sat16, Move, Moveq, Moveta, Movefa, Movei, Load, LoadR14n, LoadR15n, Store, StoreR14n, StoreR15n, MovePc, Jump, Jr, Mtoi, Normi, Nop, LoadR14r, LoadR15r, StoreR14r, StoreR15r, Sat24}
-use Rattle.isa.specs.declared.Decoded.{Decoded}
-use Rattle.isa.specs.declared.Decoded.TheVariants as D
-use Rattle.answers.specs.declared.Fault.TheVariants.{NotBuilt}
+use Rattle.answers.specs.declared.Fault.{Fault}
 use Rattle.field.specs.Fields.{quick_of, signed_field_of}
 use Rattle.values.specs.declared.Flags.{Flags}
 use Rattle.alu.specs.Add.{add_of, addc_of, sub_of, subc_of, neg_of, abs_of, cmp_of, cmpq_of}
@@ -19,7 +17,7 @@ use Rattle.shifter.specs.Normalise.{mtoi_of, normi_of}
 use Rattle.effect.specs.declared.Operands.{Operands}
 use Rattle.effect.specs.declared.Effect.{Effect}
 use Rattle.effect.specs.declared.Effect.TheVariants as E
-use Rattle.effect.specs.declared.Effect.TheVariants.{Refused, Nothing, Write, Keep, Divide, Product, Accumulate, ToOther, FromOther, Immediate, Counter}
+use Rattle.effect.specs.declared.Effect.TheVariants.{Nothing, Write, Keep, Divide, Product, Accumulate, ToOther, FromOther, Immediate, Counter}
 
 abbrev pub operand_flags : Operands → Flags
 operand_flags x = record { z = x.z; n = x.n; c = x.c }
@@ -87,11 +85,7 @@ effect_of (StoreR14r s d) a x = E.Store (address_of a 14 x.s) x.d
 effect_of (StoreR15r s d) a x = E.Store (address_of a 15 x.s) x.d
 effect_of (Sat24 d) a x = Write d (sat24_of x.d x.c)
 
--- Of a word that is an instruction, or of one that is none.
-abbrev pub effect_in : Decoded → List ℕ → Operands → Effect
-effect_in (D.Built i) a x = effect_of i a x
-effect_in (D.Refused f) a x = Refused f
-
--- "all ten bits for 57"
-abbrev pub nop_of : Bool → Bool → Effect
-nop_of no_source no_destination = cond no_source (cond no_destination Nothing (Refused NotBuilt)) (Refused NotBuilt)
+-- Of a word that is an instruction, or of one that is none, as is opcode 57 where "all ten bits for 57" are not zero.
+abbrev pub effect_in : Result Instr Fault → List ℕ → Operands → Result Effect Fault
+effect_in (Ok i) a x = Ok (effect_of i a x)
+effect_in (Err f) a x = Err f

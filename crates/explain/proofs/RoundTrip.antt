@@ -8,6 +8,7 @@ use mathlib.Core.List.{List, [], ◌∷◌, ◌++◌, append_assoc, append-nil}
 use native.Mathlib.Nat.{pow-suc}
 use native.Mathlib.Omega.{arith}
 use borrow.Author.Tests.{lt-ltb, le-ltb, lt-leb, eq-eqb, ne_eqb, ltb-true, ltb-false}
+use Rattle.std.proofs.Common.{Some, None, Ok}
 use lib.Dec.{ltb}
 use lib.ListN.{length, length-append}
 use Rattle.text.specs.Bytes.{bytes}
@@ -19,7 +20,7 @@ use Rattle.card.specs.Text.{answer_key, steps_key, pc_key, flags_key, remain_key
 use Rattle.advice.specs.Explanation.{said, explanation_of}
 use Rattle.explain.specs.ReadsBack.{Fits, ReadsBack}
 use Rattle.parser.specs.declared.Reading.TheVariants.{Card as Read, Check}
-use Rattle.scanner.specs.Lines.{number, none, Digits, decimal, hexadecimal, digit_value, number_in, keyed_in}
+use Rattle.scanner.specs.Lines.{Digits, decimal, hexadecimal, digit_value, number_in, keyed_in}
 use Rattle.parser.specs.Readings.{check_reading, card_reading, reading_of}
 
 -- A digit counts what it was written for.
@@ -87,7 +88,7 @@ some_digit k n = go (ltb n 10) where
   go true = omega arith
   go false = omega (arith, length-append (decimal_digits k (n / 10)) (digit_of (n % 10) ∷ []))
 
-feed : (f : Digits) (n k : ℕ) (t : List ℕ) → f.least ≤ k → number_in f n k (10 ∷ t) ≡ number n t
+feed : (f : Digits) (n k : ℕ) (t : List ℕ) → f.least ≤ k → number_in f n k (10 ∷ t) ≡ Some (n, t)
 unfolding number_in
 feed f n k t h = rw (le-ltb k f.least h)
 
@@ -97,34 +98,34 @@ key_read f [] t = refl
 key_read f (c ∷ key) t = rw (eq-eqb c c refl) (key_read f key t)
 
 -- A line, and whatever comes behind it.
-line_read : (f : Digits) (key digits t : List ℕ) (n : ℕ) → number_in f 0 0 (digits ++ (10 ∷ t)) ≡ number n t → keyed_in f key (line_of key digits ++ t) ≡ number n t
+line_read : (f : Digits) (key digits t : List ℕ) (n : ℕ) → number_in f 0 0 (digits ++ (10 ∷ t)) ≡ Some (n, t) → keyed_in f key (line_of key digits ++ t) ≡ Some (n, t)
 unfolding line_of
 line_read f key digits t n h =
     ap (keyed_in f key) (append_assoc key (digits ++ (10 ∷ [])) t ∙ ap (λ r. key ++ r) (append_assoc digits (10 ∷ []) t))
     ∙ key_read f key (digits ++ (10 ∷ t))
     ∙ h
 
-decimal_line : (key : List ℕ) (n : ℕ) (t : List ℕ) → n < 2 ^ 32 → keyed_in decimal key (line_of key (decimal_of n) ++ t) ≡ number n t
+decimal_line : (key : List ℕ) (n : ℕ) (t : List ℕ) → n < 2 ^ 32 → keyed_in decimal key (line_of key (decimal_of n) ++ t) ≡ Some (n, t)
 unfolding decimal_of
 decimal_line key n t h =
     line_read decimal key (decimal_digits 10 n) t n
     (decimal_read 9 n (10 ∷ t) (omega arith) (omega arith) (omega arith) ∙ feed decimal n (length (decimal_digits 10 n)) t (some_digit 9 n))
 
-hex_line : (key : List ℕ) (n : ℕ) (t : List ℕ) → n < 2 ^ 32 → keyed_in hexadecimal key (line_of key (hex_digits 8 n) ++ t) ≡ number n t
+hex_line : (key : List ℕ) (n : ℕ) (t : List ℕ) → n < 2 ^ 32 → keyed_in hexadecimal key (line_of key (hex_digits 8 n) ++ t) ≡ Some (n, t)
 hex_line key n t h =
     line_read hexadecimal key (hex_digits 8 n) t n
     (hex_read 8 n (10 ∷ t) (omega arith) (omega arith) (omega arith) ∙ feed hexadecimal n 8 t (omega arith))
 
-round_trip : (card : Card) → Fits card → reading_of (card_text card) ≡ Read card.answer card.steps card.pc
+round_trip : (card : Card) → Fits card → reading_of (card_text card) ≡ Ok (Read card.answer card.steps card.pc)
 unfolding reading_of card_reading card_text bytes
 round_trip card fits =
     rw (decimal_line answer_key card.answer _ fits.answer, decimal_line steps_key card.steps _ fits.steps, hex_line pc_key card.pc _ fits.pc, hex_line flags_key card.flags _ fits.flags, hex_line remain_key card.remainder _ fits.remainder, ← append-nil (line_of acc_key (hex_digits 8 card.accumulator)), hex_line acc_key card.accumulator [] fits.accumulator)
 
-no_steps : (digits : List ℕ) → keyed_in decimal steps_key (line_of (bytes "address=") digits) ≡ none
+no_steps : (digits : List ℕ) → keyed_in decimal steps_key (line_of (bytes "address=") digits) ≡ None
 unfolding keyed_in line_of bytes
 no_steps digits = refl
 
-check_round_trip : (answer address : ℕ) → answer < 2 ^ 32 → address < 2 ^ 32 → reading_of (check_lines answer address) ≡ Check answer address
+check_round_trip : (answer address : ℕ) → answer < 2 ^ 32 → address < 2 ^ 32 → reading_of (check_lines answer address) ≡ Ok (Check answer address)
 unfolding reading_of check_reading check_lines bytes
 check_round_trip answer address a b =
     rw (decimal_line answer_key answer _ a, no_steps (hex_digits 8 address), ← append-nil (line_of (bytes "address=") (hex_digits 8 address)), hex_line (bytes "address=") address [] b)

@@ -1,26 +1,24 @@
 -- The core of a running machine, that is, its state beside the banks, in numbers; and how it changes.
-use Rattle.std.specs.Prelude.{ℕ, ◌+◌, ◌*◌, ◌/◌, ◌%◌, ◌^◌}
+use Rattle.std.specs.Prelude.{ℕ, ◌+◌, ◌*◌, ◌/◌, ◌%◌, ◌^◌, Option, Some, None}
 use Rattle.values.specs.declared.Flags.{Flags}
 use Rattle.gpu_core.specs.declared.Core.{Core}
-use Rattle.gpu_core.specs.declared.Pending.{Pending}
-use Rattle.gpu_core.specs.declared.Pending.TheVariants.{None, At}
 
 -- How the state block tells a pending jump: a bit, and the target.
-abbrev pub waiting_of : Pending → ℕ
+abbrev pub waiting_of : Option ℕ → ℕ
 waiting_of None = 0
-waiting_of (At t) = 1
+waiting_of (Some t) = 1
 
-abbrev pub target_of : Pending → ℕ
+abbrev pub target_of : Option ℕ → ℕ
 target_of None = 0
-target_of (At t) = t
+target_of (Some t) = t
 
 -- "the next instruction runs, then the counter becomes the target."
-abbrev pub counter_of : Pending → ℕ → ℕ
+abbrev pub counter_of : Option ℕ → ℕ → ℕ
 counter_of None pc = (pc + 2) % 2 ^ 32
-counter_of (At t) pc = t
+counter_of (Some t) pc = t
 
 -- After a whole instruction of one word, with p pending.
-abbrev pub moved_of : Core → Pending → Core
+abbrev pub moved_of : Core → Option ℕ → Core
 moved_of k p =
     record { bank = k.bank; flags = k.flags; pc = counter_of k.pending k.pc; pending = p; remainder = k.remainder; mode = k.mode; accumulator = k.accumulator }
 

@@ -1,10 +1,8 @@
 -- What holds of every memory, bank and core that a run meets: bytes below 256, 32 registers in a bank, numbers of 32 bits, and bits. The
 -- types give it of what is lent and of a state, and every instruction keeps it.
-use Rattle.std.specs.Prelude.{◌≡◌, ℕ, ◌^◌, ◌<◌, List, length, slice_index}
+use Rattle.std.specs.Prelude.{◌≡◌, ℕ, ◌^◌, ◌<◌, List, length, slice_index, Option, Some, None}
 use Rattle.values.specs.Results.{IsFlags}
 use Rattle.gpu_core.specs.declared.Core.{Core}
-use Rattle.gpu_core.specs.declared.Pending.{Pending}
-use Rattle.gpu_core.specs.declared.Pending.TheVariants.{None, At}
 use Rattle.gpu_core.specs.Machine.{Memory, Machine}
 
 -- Every element is below m.
@@ -18,9 +16,9 @@ pub record IsBank (bank : List ℕ) : Type 0 where
   pub registers : length bank ≡ 32
   pub words : Below (2 ^ 32) bank
 
-abbrev pub IsPending : Pending → Type 0
+abbrev pub IsPending : Option ℕ → Type 0
 IsPending None = Unit {0}
-IsPending (At t) = t < 2 ^ 32
+IsPending (Some t) = t < 2 ^ 32
 
 pub record IsCore (k : Core) : Type 0 where
   pub bank_bit : k.bank < 2

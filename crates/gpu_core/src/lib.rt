@@ -1,23 +1,10 @@
 // The core of the machine: its state beside the banks, in numbers, which an instruction changes.
 #![tactic(auto)]
 
-ghost use Rattle.std.specs.Prelude.{◌≡◌, ◌<◌};
-ghost use Rattle.gpu_core.specs.Core.{waiting_of, target_of, counter_of, moved_of, skipped_of, with_flags, with_remainder, with_accumulator, with_mode, with_flag_register, flag_register_of};
+ghost use Rattle.std.specs.Prelude.{◌≡◌};
+ghost use Rattle.gpu_core.specs.Core.{moved_of, skipped_of, with_flag_register, flag_register_of};
 
 use values::Flags;
-
-// The target of a taken jump whose following instruction has not run yet.
-#[derive(Clone, Copy)]
-pub enum Pending {
-    None,
-    At(u32),
-}
-
-#[derive(Clone, Copy)]
-pub enum Activity {
-    Running,
-    Stopped,
-}
 
 #[derive(Clone, Copy)]
 pub struct Core {
@@ -26,122 +13,46 @@ pub struct Core {
     // Each is a bit, which every step keeps.
     pub flags: Flags,
     pub pc: u32,
-    pub pending: Pending,
+    // The target of a taken jump whose following instruction has not run yet.
+    pub pending: Option<u32>,
     pub remainder: u32,
     // The divide mode, a bit.
     pub mode: u32,
     pub accumulator: u32,
 }
 
-// Whether a jump is pending, as a bit.
-pub fn waiting(p: Pending) -> u32
-    ensures { (result ≡ waiting_of p) × (result < 2) }
-{
-    match p {
-        Pending::None => 0,
-        Pending::At(_) => 1,
-    }
-}
-
-// The target of the pending jump; 0 if there is none.
-pub fn target(p: Pending) -> u32
-    ensures { result ≡ target_of p }
-{
-    match p {
-        Pending::None => 0,
-        Pending::At(t) => t,
-    }
-}
-
-fn counter(p: Pending, pc: u32) -> u32
-    ensures { result ≡ counter_of p pc }
-{
-    match p {
-        Pending::None => std::num::wrapping_add_u32(pc, 2),
-        Pending::At(target) => target,
-    }
-}
-
 impl Core {
-    // After a whole instruction of one word, with p pending.
-    pub fn moved(self, p: Pending) -> Core
-        ensures { result ≡ moved_of self p }
+    // A whole instruction of one word is done, and p is pending after it.
+    pub fn move_on(&mut self, p: Option<u32>)
+        ensures { self.new ≡ moved_of self.old p }
     {
-        let flags = self.flags;
-        let before = self.pending;
-        Core {
-            bank: self.bank,
-            flags: flags,
-            pc: counter(before, self.pc),
-            pending: p,
-            remainder: self.remainder,
-            mode: self.mode,
-            accumulator: self.accumulator,
-        }
+        self.pc = self.pending.unwrap_or(self.pc.wrapping_add(2));
+        self.pending = p;
     }
 
-    // After a MOVEI, of three words.
-    pub fn skipped(self) -> Core
-        ensures { result ≡ skipped_of self }
+    // A MOVEI is done, of three words, before which nothing can be pending.
+    pub fn skip(&mut self)
+        ensures { self.new ≡ skipped_of self.old }
     {
-        let flags = self.flags;
-        Core {
-            bank: self.bank,
-            flags: flags,
-            pc: std::num::wrapping_add_u32(self.pc, 6),
-            pending: Pending::None,
-            remainder: self.remainder,
-            mode: self.mode,
-            accumulator: self.accumulator,
-        }
+        self.pc = self.pc.wrapping_add(6);
+        self.pending = None;
     }
 
-    pub fn with_flags(mut self, f: Flags) -> Core
-        ensures { result ≡ with_flags self f }
+    // A write of v to the flag register.
+    pub fn set_flag_register(&mut self, v: u32)
+        ensures { self.new ≡ with_flag_register self.old v }
     {
-        self.flags = f;
-        self
-    }
-
-    pub fn with_remainder(mut self, v: u32) -> Core
-        ensures { result ≡ with_remainder self v }
-    {
-        self.remainder = v;
-        self
-    }
-
-    pub fn with_accumulator(mut self, v: u32) -> Core
-        ensures { result ≡ with_accumulator self v }
-    {
-        self.accumulator = v;
-        self
-    }
-
-    // After a write of v to the divide register.
-    pub fn with_mode(mut self, v: u32) -> Core
-        ensures { result ≡ with_mode self v }
-    {
-        self.mode = v % 2;
-        self
-    }
-
-    // After a write of v to the flag register.
-    pub fn with_flag_register(mut self, v: u32) -> Core
-        ensures { result ≡ with_flag_register self v }
-    {
-        let flags = Flags {
+        self.bank = v / 16384 % 2;
+        self.flags = Flags {
             z: v % 2,
             n: v / 4 % 2,
             c: v / 2 % 2,
         };
-        self.bank = v / 16384 % 2;
-        self.flags = flags;
-        self
     }
 
     // What the flag register reads.
-    pub fn flag_register(self) -> u32
-        ensures { result ≡ flag_register_of self }
+    pub fn flag_register(&self) -> u32
+        ensures { result ≡ flag_register_of self.now }
     {
         let f = self.flags;
         f.z % 2 + 2 * (f.c % 2) + 4 * (f.n % 2) + 16384 * (self.bank % 2)

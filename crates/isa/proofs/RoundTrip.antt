@@ -9,8 +9,8 @@ use borrow.Author.Tests.{eqb-true, ltb-true, ne_eqb}
 use lib.Dec.{eqb, ltb}
 use Rattle.isa.specs.declared.Instr.{Instr}
 use Rattle.isa.specs.declared.Instr.TheVariants.{Add, Addc, Addq, Addqt, Sub, Subc, Subq, Subqt, Neg, And, Or, Xor, Not, Btst, Bset, Bclr, Mult, Imult, Imultn, Resmac, Imacn, Div, Abs, Sh, Shlq, Shrq, Sha, Sharq, Ror, Rorq, Cmp, Cmpq, Sat8, Sat16, Move, Moveq, Moveta, Movefa, Movei, Load, LoadR14n, LoadR15n, Store, StoreR14n, StoreR15n, MovePc, Jump, Jr, Mtoi, Normi, Nop, LoadR14r, LoadR15r, StoreR14r, StoreR15r, Sat24}
-use Rattle.isa.specs.declared.Decoded.{Decoded}
-use Rattle.isa.specs.declared.Decoded.TheVariants.{Built}
+use Rattle.std.proofs.Common.{Result, Ok}
+use Rattle.answers.specs.declared.Fault.{Fault}
 use Rattle.isa.specs.declared.form.Form.{Form}
 use Rattle.isa.specs.Table.{form_of, instructions}
 use Rattle.isa.specs.Words.{no_instruction, word_of, opcode_in, source_in, destination_in, one_of, unbuilt_opcodes, built, instruction_at, decoded_at, encode_of, decode_of}
@@ -91,7 +91,7 @@ module _ (w : ℕ) (small : w < 65536) where
       let d : destination_in (form_of i) ≡ w % 32 = cc in
       (rw (s, d) (omega arith, omega arith), rw (op, s, d) (omega arith))
 
-  go : {r : Decoded} (t : Bool) → built_word w ≡ t → r ≡ cond t (Built (instruction_at (w / 1024) (w / 32 % 32) (w % 32))) no_instruction → Decodes w r
+  go : {r : Result Instr Fault} (t : Bool) → built_word w ≡ t → r ≡ cond t (Ok (instruction_at (w / 1024) (w / 32 % 32) (w % 32))) no_instruction → Decodes w r
   go true b e =
       record {
         is_built = ap is_decoded e ∙ sym b;
@@ -105,12 +105,12 @@ module _ (w : ℕ) (small : w < 65536) where
         back = λ i r. let never : ◌≡◌ {A = ℕ} 0 1 = cc in absurd (omega arith);
       }
 
-  pub decodes : {r : Decoded} → r ≡ decode_of w → Decodes w r
+  pub decodes : {r : Result Instr Fault} → r ≡ decode_of w → Decodes w r
   unfolding decoded_at
   decodes e = go (built_word w) refl e
 
 -- each instruction is found at its own fields
-pub found : (i : Instr) → (ltb (opcode_in (form_of i)) 64 ≡ true) × (decoded_at (opcode_in (form_of i)) (source_in (form_of i)) (destination_in (form_of i)) ≡ Built i)
+pub found : (i : Instr) → (ltb (opcode_in (form_of i)) 64 ≡ true) × (decoded_at (opcode_in (form_of i)) (source_in (form_of i)) (destination_in (form_of i)) ≡ Ok i)
 unfolding decoded_at instruction_at
 found (Add s d) = (refl, refl)
 found (Addc s d) = (refl, refl)

@@ -1,10 +1,9 @@
 -- Instruction words: "Six bits opcode, five source, five destination".
-use Rattle.std.specs.Prelude.{ℕ, ◌+◌, ◌*◌, ◌/◌, ◌%◌, Bool, false, not, cond, ◌&&◌, ◌||◌, List, [], ◌∷◌, eqb, ltb}
+use Rattle.std.specs.Prelude.{ℕ, ◌+◌, ◌*◌, ◌/◌, ◌%◌, Bool, false, not, cond, ◌&&◌, ◌||◌, List, [], ◌∷◌, eqb, ltb, Result, Ok, Err}
 use Rattle.isa.specs.declared.Instr.{Instr}
 use Rattle.isa.specs.declared.Instr.TheVariants.{Nop}
+use Rattle.answers.specs.declared.Fault.{Fault}
 use Rattle.answers.specs.declared.Fault.TheVariants.{NotBuilt}
-use Rattle.isa.specs.declared.Decoded.{Decoded}
-use Rattle.isa.specs.declared.Decoded.TheVariants.{Built, Refused}
 use Rattle.isa.specs.declared.form.Form.{Form}
 use Rattle.isa.specs.declared.form.Form.TheVariants.{Two, One, Implied}
 use Rattle.isa.specs.Table.{form_of, instructions}
@@ -63,13 +62,13 @@ unfoldable pub instruction_at : ℕ → ℕ → ℕ → Instr
 instruction_at op s d = among op (instructions s d)
 
 -- "word not built"
-abbrev pub no_instruction : Decoded
-no_instruction = Refused NotBuilt
+abbrev pub no_instruction : Result Instr Fault
+no_instruction = Err NotBuilt
 
 -- What three fields are.
-unfoldable pub decoded_at : ℕ → ℕ → ℕ → Decoded
-decoded_at op s d = cond (built op (eqb s 0) (eqb d 0)) (Built (instruction_at op s d)) no_instruction
+unfoldable pub decoded_at : ℕ → ℕ → ℕ → Result Instr Fault
+decoded_at op s d = cond (built op (eqb s 0) (eqb d 0)) (Ok (instruction_at op s d)) no_instruction
 
 -- The instruction that a word is, if it is built.
-abbrev pub decode_of : ℕ → Decoded
+abbrev pub decode_of : ℕ → Result Instr Fault
 decode_of w = decoded_at (w / 1024) (w / 32 % 32) (w % 32)

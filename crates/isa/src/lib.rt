@@ -4,8 +4,6 @@
 
 #![tactic(auto)]
 
-use answers::Fault;
-
 mod form;
 mod word;
 
@@ -83,11 +81,4 @@ pub enum Instr {
     StoreR14r(Reg, Reg),
     StoreR15r(Reg, Reg),
     Sat24(Reg),
-}
-
-// What a word is: an instruction, or the refusal.
-#[derive(Clone, Copy)]
-pub enum Decoded {
-    Built(Instr),
-    Refused(Fault),
 }

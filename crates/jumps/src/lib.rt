@@ -2,26 +2,23 @@
 #![tactic(auto)]
 
 ghost use Rattle.std.specs.Prelude.{◌≡◌};
+ghost use Rattle.outcome.specs.Outcome.{moved_with};
 ghost use Rattle.jumps.specs.Jumps.{jump_of};
 
-use answers::{End, Fault};
+use answers::{Activity, End, Fault};
 use branch::taken;
-use gpu_core::{Core, Pending};
-use outcome::{Moved, done, ended, fault};
+use gpu_core::Core;
+use outcome::done;
 
-pub fn jump(k: Core, condition: u32, target: u32) -> Moved
-    ensures { result ≡ jump_of k k.pending condition target }
+pub fn jump(k: &mut Core, condition: u32, target: u32) -> End
+    ensures { moved_with result k.new ≡ jump_of k.old k.old.pending condition target }
 {
-    let p = k.pending;
-    match p {
-        Pending::At(_) => fault(Fault::JumpPending, k),
-        Pending::None => {
-            let f = k.flags;
-            if taken(condition, f) {
-                ended(End::Completed, k.moved(Pending::At(target)))
-            } else {
-                done(k)
-            }
-        }
+    if k.pending.is_some() {
+        Err(Fault::JumpPending)
+    } else if taken(condition, k.flags) {
+        k.move_on(Some(target));
+        Ok(Activity::Running)
+    } else {
+        done(k)
     }
 }

@@ -1,12 +1,10 @@
 -- A bank, RAM and the core keep their types where a part of them changes.
 -- Assumes nothing.
-use Rattle.std.proofs.Common.{ℕ, zero, suc, ◌+◌, ◌/◌, ◌%◌, ◌^◌, ◌<◌, List, [], ◌∷◌, set, arith, length-set}
+use Rattle.std.proofs.Common.{ℕ, zero, suc, ◌+◌, ◌/◌, ◌%◌, ◌^◌, ◌<◌, List, [], ◌∷◌, set, arith, length-set, Option, Some, None}
 use Rattle.values.specs.declared.Flags.{Flags}
 use Rattle.values.specs.Results.{IsFlags}
 use Rattle.memory.specs.Memory.{put_long}
 use Rattle.gpu_core.specs.declared.Core.{Core}
-use Rattle.gpu_core.specs.declared.Pending.{Pending}
-use Rattle.gpu_core.specs.declared.Pending.TheVariants.{None, At}
 use Rattle.gpu_core.specs.Core.{counter_of, moved_of, skipped_of, with_flags, with_remainder, with_accumulator, with_mode, with_flag_register}
 use Rattle.gpu_core.specs.Types.{Below, IsBytes, IsBank, IsPending, IsCore}
 
@@ -33,11 +31,11 @@ bytes_put l i v h =
     byte m j n hm = below_set 256 (n % 256) (omega arith) m j hm
 
 module _ (k : Core) (h : IsCore k) where
-  counter_word : (p : Pending) (pc : ℕ) → IsPending p → counter_of p pc < 2 ^ 32
+  counter_word : (p : Option ℕ) (pc : ℕ) → IsPending p → counter_of p pc < 2 ^ 32
   counter_word None pc hp = omega arith
-  counter_word (At t) pc hp = hp
+  counter_word (Some t) pc hp = hp
 
-  pub moved : (p : Pending) → IsPending p → IsCore (moved_of k p)
+  pub moved : (p : Option ℕ) → IsPending p → IsCore (moved_of k p)
   moved p hp = search (h, hp, counter_word k.pending k.pc h.pending_word)
 
   pub skipped : IsCore (skipped_of k)

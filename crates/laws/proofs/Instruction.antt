@@ -1,18 +1,13 @@
 -- Every instruction keeps what holds of the machine's parts, and one that is not completed leaves the machine as it was, at every
 -- sound processor: one walk over the effects.
 -- Assumes nothing.
-use Rattle.std.proofs.Common.{◌≡◌, ℕ, ◌/◌, ◌%◌, ◌^◌, ◌<◌, Bool, true, false, cond, eqb, List, sym, refl, subst, length-set}
+use Rattle.std.proofs.Common.{◌≡◌, ℕ, ◌/◌, ◌%◌, ◌^◌, ◌<◌, Bool, true, false, cond, eqb, List, sym, refl, subst, length-set, Option, Some, None, Result, Ok, Err}
 use Rattle.branch.specs.Jump.{taken_of}
-use Rattle.isa.specs.declared.Decoded.{Decoded}
-use Rattle.isa.specs.declared.Decoded.TheVariants as D
+use Rattle.isa.specs.declared.Instr.{Instr}
 use Rattle.values.specs.Results.{flags_of}
 use Rattle.processor.specs.Processor.{Processor, Sound}
 use Rattle.memory.specs.Memory.{fetch_of}
 use Rattle.places.specs.Places.{place_of}
-use Rattle.memory.specs.declared.Fetched.{Fetched}
-use Rattle.memory.specs.declared.Fetched.TheVariants as F
-use Rattle.memory.specs.declared.Received.{Received}
-use Rattle.memory.specs.declared.Received.TheVariants as I
 use Rattle.places.specs.declared.Place.{Place}
 use Rattle.places.specs.declared.Place.TheVariants as M
 use Rattle.effect.specs.Effects.{effect_of, effect_in}
@@ -22,33 +17,31 @@ use Rattle.effect.specs.declared.Operands.{Operands}
 use Rattle.effect.proofs.Widths.{flags_fit}
 use Rattle.effect.proofs.EffectWidths.{OperandsFit, EffectFits, effect_fits}
 use Rattle.answers.specs.declared.Fault.{Fault}
-use Rattle.answers.specs.declared.End.{End}
-use Rattle.answers.specs.declared.End.TheVariants.{Completed, Stopped, Faulted}
+use Rattle.answers.specs.Answers.{End}
+use Rattle.answers.specs.declared.Activity.TheVariants as A
 use Rattle.gpu_core.specs.declared.Core.{Core}
-use Rattle.gpu_core.specs.declared.Pending.{Pending}
-use Rattle.gpu_core.specs.declared.Pending.TheVariants.{None, At}
 use Rattle.gpu_core.specs.Core.{moved_of}
 use Rattle.gpu_core.specs.Machine.{Machine, machine_with}
 use Rattle.gpu_core.specs.Types.{IsBank, IsCore, IsMachine}
 use Rattle.outcome.specs.Outcome.{moved_with, faulted_of, done_of, Outcome, unwritten, writes}
 use Rattle.jumps.specs.Jumps.{jump_of}
-use Rattle.loads.specs.Loads.{immediate_in, counter_in, load_of, receives}
+use Rattle.loads.specs.Loads.{immediate_in, counter_in, load_of}
 use Rattle.stores.specs.Stores.{same_bank, store_of}
-use Rattle.cpu.specs.Step.{apply_of, operands_of, execute_of, fetched_of, advance_of}
+use Rattle.cpu.specs.Step.{receives, apply_of, effected_of, operands_of, execute_of, fetched_of, advance_of}
 use Rattle.laws.proofs.Core.{bank_set, bytes_put, moved, skipped, flagged, remaindered, accumulated, with_mode_lem, with_flag_register_lem}
 use Rattle.laws.proofs.Longs.{LongFits, immediate_fits, counter_fits, load_fits}
 
 -- an instruction that stops the machine is completed too
 abbrev pub IsCompleted : End → Type 0
-IsCompleted Completed = Unit {0}
-IsCompleted Stopped = Unit {0}
-IsCompleted (Faulted f) = ⊥
+IsCompleted (Ok A.Running) = Unit {0}
+IsCompleted (Ok A.Stopped) = Unit {0}
+IsCompleted (Err f) = ⊥
 
 module _ (P : Processor) (m : Machine) (h : IsMachine P.size m) where
   -- what comes of an instruction is a machine again, and the same one where it faults
   pub record Keeps (o : Outcome) : Type 0 where
     pub typed : IsMachine P.size o.machine
-    pub untouched : (f : Fault) → o.end ≡ Faulted f → o.machine ≡ m
+    pub untouched : (f : Fault) → o.end ≡ Err f → o.machine ≡ m
 
   completes : {o : Outcome} → IsCompleted o.end → IsMachine P.size o.machine → Keeps o
   completes is t = record { typed = t; untouched = λ f e. absurd (subst IsCompleted e is) }
@@ -68,16 +61,16 @@ module _ (P : Processor) (m : Machine) (h : IsMachine P.size m) where
   writing : (d n : ℕ) (k : Core) → n < 2 ^ 32 → IsCore k → Keeps (writes m d n (done_of k))
   writing d n k hn hk = completes tt (leaves _ _ (bank_set m.active (d % 32) n hn h.active_bank) (moved k hk None tt))
 
-  receiving : (next : Core) → IsCore next → (d : ℕ) (v : Received) → LongFits v → Keeps (receives m next d v)
-  receiving next hk d (I.Long n) hn = completes tt (leaves _ next (bank_set m.active (d % 32) n hn h.active_bank) hk)
-  receiving next hk d (I.Refused f) hn = faults f
+  receiving : (next : Core) → IsCore next → (d : ℕ) (v : Result ℕ Fault) → LongFits v → Keeps (receives m next d v)
+  receiving next hk d (Ok n) hn = completes tt (leaves _ next (bank_set m.active (d % 32) n hn h.active_bank) hk)
+  receiving next hk d (Err f) hn = faults f
 
-  jumping : (p : Pending) (condition target : ℕ) → target < 2 ^ 32 → Keeps (unwritten m (jump_of m.core p condition target))
-  jumping (At t) condition target ht = faults _
+  jumping : (p : Option ℕ) (condition target : ℕ) → target < 2 ^ 32 → Keeps (unwritten m (jump_of m.core p condition target))
+  jumping (Some t) condition target ht = faults _
   jumping None condition target ht = go (taken_of condition m.core.flags)
     where
-      go : (t : Bool) → Keeps (unwritten m (cond t (moved_with Completed (moved_of m.core (At target))) (done_of m.core)))
-      go true = completes tt (leaves m.active _ h.active_bank (moved m.core h.core_typed (At target) ht))
+      go : (t : Bool) → Keeps (unwritten m (cond t (moved_with (Ok A.Running) (moved_of m.core (Some target))) (done_of m.core)))
+      go true = completes tt (leaves m.active _ h.active_bank (moved m.core h.core_typed (Some target) ht))
       go false = resting m.core h.core_typed
 
   -- the two banks stay, or change places
@@ -86,8 +79,8 @@ module _ (P : Processor) (m : Machine) (h : IsMachine P.size m) where
   exchanged k hk false =
       record { active_bank = h.other_bank; other_bank = h.active_bank; core_typed = hk; memory_typed = h.memory_typed }
 
-  storing : (n : ℕ) (p : Place) → Keeps (store_of m n p)
-  storing n (M.Ram at) =
+  storing : (n : ℕ) (p : Result Place Fault) → Keeps (store_of m n p)
+  storing n (Ok (M.Ram at)) =
       completes tt
       (record {
         active_bank = h.active_bank;
@@ -95,19 +88,18 @@ module _ (P : Processor) (m : Machine) (h : IsMachine P.size m) where
         core_typed = moved m.core h.core_typed None tt;
         memory_typed = record { whole = simp length-set h.memory_typed.whole; bytes = record { ram_bytes = bytes_put m.memory.ram at n h.memory_typed.bytes.ram_bytes } };
       })
-  storing n M.Flags =
+  storing n (Ok M.Flags) =
       completes tt (exchanged _ (moved _ (with_flag_register_lem m.core h.core_typed n) None tt) (same_bank m.core n))
-  storing n M.Control = go (eqb (n % 2) 0)
+  storing n (Ok M.Control) = go (eqb (n % 2) 0)
     where
-      go : (t : Bool) → Keeps (unwritten m (moved_with (cond t Stopped Completed) (moved_of m.core None)))
+      go : (t : Bool) → Keeps (unwritten m (moved_with (cond t (Ok A.Stopped) (Ok A.Running)) (moved_of m.core None)))
       go true = completes tt (leaves m.active _ h.active_bank (moved m.core h.core_typed None tt))
       go false = resting m.core h.core_typed
-  storing n M.Divide = resting _ (with_mode_lem m.core h.core_typed n)
-  storing n (M.Refused f) = faults f
+  storing n (Ok M.Divide) = resting _ (with_mode_lem m.core h.core_typed n)
+  storing n (Err f) = faults f
 
   applied : (e : Effect) → EffectFits e → Keeps (apply_of P m e)
   unfolding apply_of
-  applied (E.Refused g) f = faults g
   applied E.Nothing f = resting _ h.core_typed
   applied (E.Write d r) f = writing d _ _ f.value_fits (flagged m.core h.core_typed (flags_of r) (flags_fit r f))
   applied (E.Keep d n) f = writing d n _ f h.core_typed
@@ -137,7 +129,7 @@ module _ (P : Processor) (m : Machine) (h : IsMachine P.size m) where
   module _ (sound : Sound P) where
     executed : (w : ℕ) → Keeps (execute_of P m w)
     unfolding execute_of
-    executed w = applied _ (go (P.decode w) refl)
+    executed w = go (P.decode w) refl
       where
         x : Operands
         x = operands_of m.active m.core (w / 32 % 32) (w % 32)
@@ -152,16 +144,16 @@ module _ (P : Processor) (m : Machine) (h : IsMachine P.size m) where
               c_fits = h.core_typed.flag_bits.c_bit;
             }
 
-        go : (d : Decoded) → P.decode w ≡ d → EffectFits (effect_in d m.active x)
-        go (D.Built i) e =
+        go : (d : Result Instr Fault) → P.decode w ≡ d → Keeps (effected_of P m (effect_in d m.active x))
+        go (Ok i) e =
             let l = sound.decodes w i e in
-            subst (λ j. EffectFits (effect_of j m.active x)) (sym l.is) (effect_fits m.active x fits l.opcode (w / 32 % 32) (w % 32))
-        go (D.Refused f) e = tt
+            applied _ (subst (λ j. EffectFits (effect_of j m.active x)) (sym l.is) (effect_fits m.active x fits l.opcode (w / 32 % 32) (w % 32)))
+        go (Err f) e = faults f
 
     pub advanced : Keeps (advance_of P m)
     unfolding advance_of
     advanced = go (fetch_of P m.memory.ram m.core.pc)
       where
-        go : (f : Fetched) → Keeps (fetched_of P m f)
-        go (F.Word w) = executed w
-        go (F.Refused f) = faults f
+        go : (f : Result ℕ Fault) → Keeps (fetched_of P m f)
+        go (Ok w) = executed w
+        go (Err f) = faults f

@@ -1,16 +1,15 @@
 -- The laws of runs, from those of instructions one after another: a run is such instructions on the machine of a state.
 -- Assumes nothing.
-use Rattle.std.proofs.Common.{◌≡◌, ℕ, ◌+◌, ◌<◌, ◌≤◌, Bool, true, false, cond, eqb, ltb, length, sym, refl, ap, ◌∙◌, subst, arith, ltb-false, ltb-true, le-ltb, lt-ltb, eq-eqb, ne_eqb, eqb-true}
+use Rattle.std.proofs.Common.{◌≡◌, ℕ, ◌+◌, ◌<◌, ◌≤◌, Bool, true, false, cond, eqb, ltb, length, sym, refl, ap, ◌∙◌, subst, arith, ltb-false, ltb-true, le-ltb, lt-ltb, eq-eqb, ne_eqb, eqb-true, Ok, Err}
 use borrow.Author.Tests.{eqb-false}
 use Rattle.processor.specs.Processor.{Processor, Sound}
 use Rattle.answers.specs.declared.Fault.{Fault}
 use Rattle.answers.specs.declared.Fault.TheVariants.{NotBuilt, BadCounter, Misaligned, Unmapped, JumpPending}
-use Rattle.answers.specs.declared.End.{End}
-use Rattle.answers.specs.declared.End.TheVariants.{Completed, Stopped, Faulted}
+use Rattle.answers.specs.Answers.{End}
 use Rattle.answers.specs.declared.Answer.TheVariants as R
 use Rattle.answers.specs.Answers.{number_of, answer_of}
-use Rattle.gpu_core.specs.declared.Activity.{Activity}
-use Rattle.gpu_core.specs.declared.Activity.TheVariants as A
+use Rattle.answers.specs.declared.Activity.{Activity}
+use Rattle.answers.specs.declared.Activity.TheVariants as A
 use Rattle.gpu_core.specs.Machine.{Memory}
 use Rattle.gpu_core.specs.Types.{HoldsBytes, IsMemory, IsMachine}
 use Rattle.cycle.specs.Runs.{Runs, runs_of}
@@ -23,13 +22,13 @@ use Rattle.machine.proofs.Machines.{machine_state, machine_typed, left_typed}
 
 -- no instruction ends with the number of a refusal
 pub end_small : (e : End) → number_of (answer_of e) < 31
-end_small Completed = omega arith
-end_small Stopped = omega arith
-end_small (Faulted NotBuilt) = omega arith
-end_small (Faulted BadCounter) = omega arith
-end_small (Faulted Misaligned) = omega arith
-end_small (Faulted Unmapped) = omega arith
-end_small (Faulted JumpPending) = omega arith
+end_small (Ok A.Running) = omega arith
+end_small (Ok A.Stopped) = omega arith
+end_small (Err NotBuilt) = omega arith
+end_small (Err BadCounter) = omega arith
+end_small (Err Misaligned) = omega arith
+end_small (Err Unmapped) = omega arith
+end_small (Err JumpPending) = omega arith
 
 module _ (P : Processor) (memory : Memory) (s : State) where
   -- a run that is not refused
@@ -83,7 +82,7 @@ module _ (P : Processor) (sound : Sound P) (memory : Memory) (s : State) (bytes 
       begun budget allowed = ran P memory s budget whole allowed ∙ ap (started_of P memory s budget) running
 
       -- "both as they stood before the faulty instruction"
-      met : (budget : ℕ) → budget ≤ budget_limit → (f : Fault) → (after budget).end ≡ Faulted f → LeftBefore P memory s (result_of (after budget))
+      met : (budget : ℕ) → budget ≤ budget_limit → (f : Fault) → (after budget).end ≡ Err f → LeftBefore P memory s (result_of (after budget))
       unfolding runs_of
       met budget allowed f e =
           let l = runs.faulty P sound budget 0 (machine_of s memory) start_typed f e in
@@ -96,17 +95,17 @@ module _ (P : Processor) (sound : Sound P) (memory : Memory) (s : State) (bytes 
 
       added : (a b : ℕ) → a + b ≤ budget_limit → (e : End) → (after a).end ≡ e → (after a).steps ≡ a
           → result_of (after (a + b)) ≡ counted a (run_of P (after a).machine.memory (state_of (activity_of e) (after a).machine) b)
-      added a b allowed Completed e steps =
+      added a b allowed (Ok A.Running) e steps =
           let l = runs.runs_add P a b 0 (machine_of s memory) e in
           let zero_first : 0 + a ≡ a + 0 = omega arith in
           ap result_of (l.1 ∙ ap (λ k. runs_of P b k (after a).machine) zero_first ∙ runs.counted P b a 0 (after a).machine)
           ∙ ap (counted a) (sym (from_there a b (omega arith)))
-      added a b allowed Stopped e steps =
+      added a b allowed (Ok A.Stopped) e steps =
           let none : a ≡ a + 0 = omega arith in
           ap result_of (runs.runs_cut P a b 0 (machine_of s memory) (λ c. runs.not_stopped (sym e ∙ c)))
           ∙ rw (e, steps, ran P (after a).machine.memory (state_of A.Stopped (after a).machine) b (after_typed a).memory_typed.whole (omega arith))
           (ap (λ k. result R.Stopped k (state_of A.Stopped (after a).machine) (after a).machine.memory) none)
-      added a b allowed (Faulted f) e steps =
+      added a b allowed (Err f) e steps =
           let l = runs.faulty P sound a 0 (machine_of s memory) start_typed f e in absurd (omega (arith, l.count, l.within))
 
   -- what a run leaves is memory and a state again
@@ -138,9 +137,9 @@ laws P sound = record { refusals = refusal; faults = fault; budgets = add; cut_s
       where
         go : length memory.ram ≡ P.size → budget ≤ budget_limit → s.activity ≡ A.Running → (e : End) → (runs_of P budget 0 (machine_of s memory)).end ≡ e → IsFault (answer_of (runs_of P budget 0 (machine_of s memory)).end)
             → LeftBefore P memory s (result_of (runs_of P budget 0 (machine_of s memory)))
-        go whole allowed running Completed e h = absurd (omega (arith, (rw e at h).at_least))
-        go whole allowed running Stopped e h = absurd (omega (arith, (rw e at h).at_least))
-        go whole allowed running (Faulted f) e h = met P sound memory s bytes is whole running budget allowed f e
+        go whole allowed running (Ok A.Running) e h = absurd (omega (arith, (rw e at h).at_least))
+        go whole allowed running (Ok A.Stopped) e h = absurd (omega (arith, (rw e at h).at_least))
+        go whole allowed running (Err f) e h = met P sound memory s bytes is whole running budget allowed f e
 
     add : (memory : Memory) (s : State) → HoldsBytes memory → IsState s → (a b : ℕ) → a + b ≤ budget_limit → Spends a (run_of P memory s a) → run_of P memory s (a + b) ≡ counted a (run_of P (run_of P memory s a).memory (run_of P memory s a).ran.state b)
     add memory s bytes is a b allowed =

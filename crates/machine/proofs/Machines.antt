@@ -4,7 +4,7 @@ use Rattle.std.proofs.Common.{◌≡◌, ℕ, ◌%◌, ◌<◌, Bool, true, fals
 use borrow.Author.Tests.{eqb-false}
 use Rattle.values.specs.Results.{bit_of, is_one}
 use Rattle.gpu_core.specs.declared.Core.{Core}
-use Rattle.gpu_core.specs.declared.Activity.{Activity}
+use Rattle.answers.specs.declared.Activity.{Activity}
 use Rattle.gpu_core.specs.Machine.{Memory, Machine, machine_with}
 use Rattle.gpu_core.specs.Types.{IsCore, IsMemory, IsMachine}
 use Rattle.machine.specs.declared.State.{State}

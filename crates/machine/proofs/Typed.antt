@@ -1,15 +1,14 @@
 -- What owning a state tells of it: its banks and numbers.
 -- Assumes nothing.
-use Rattle.std.proofs.Common.{ℕ, zero, suc, ◌^◌, ◌<◌, List, [], ◌∷◌, get_or, arith, w32}
+use Rattle.std.proofs.Common.{ℕ, zero, suc, ◌^◌, ◌<◌, List, [], ◌∷◌, get_or, arith, w32, Option, Some, None}
 use mir.Val.{Val}
 use denote.Shadow.{shadow}
 use denote.Laws.{Is}
 use denote.Array.{Array, each}
 use denote.Plain.{UInt}
 use denote.Struct.Declared.{row}
-use Rattle.gpu_core.specs.declared.Pending.{Pending}
-use Rattle.gpu_core.specs.declared.Pending.TheVariants.{None, At}
-use Rattle.gpu_core.specs.contracts.Pending as Q
+use denote.Builtin.{u32}
+use Rattle.std.specs.contracts.option.Option as Q
 use Rattle.values.proofs.Bits.{bit_fits}
 use Rattle.gpu_core.specs.Types.{IsBank, IsPending}
 use Rattle.machine.specs.declared.State.{State}
@@ -25,9 +24,9 @@ words (x ∷ xs) (u ∷ us) h (suc i) = words xs us h.1 i
 bank : (xs : List ℕ) (vs : List Val) → Is (Array (UInt w32) 32) xs vs → IsBank xs
 bank xs vs h = record { registers = h.1.0.1; words = words xs h.0 h.1.1 }
 
-target : (p : Pending) (vs : List Val) → Is (Q.the_field).row ((Q.the_field).into p) vs → IsPending p
+target : (p : Option ℕ) (vs : List Val) → Is (Q.the_field u32).row ((Q.the_field u32).into p) vs → IsPending p
 target None vs h = tt
-target (At t) vs h = h.1.1.1.1.0.1
+target (Some t) vs h = h.1.1.1.1.0.1
 
 pub is_state : (s : State) (vs : List Val) → Is (row S.the_type) s vs → IsState s
 is_state s vs h =

@@ -1,13 +1,12 @@
 -- A run: its refusals, and instructions one after another up to its budget.
-use Rattle.std.specs.Prelude.{ℕ, ◌+◌, cond, length, ◌==◌, nat_lt}
+use Rattle.std.specs.Prelude.{ℕ, ◌+◌, cond, length, ◌==◌, nat_lt, Ok, Err}
 use Rattle.processor.specs.Processor.{Processor}
-use Rattle.answers.specs.declared.End.{End}
-use Rattle.answers.specs.declared.End.TheVariants as E
+use Rattle.answers.specs.Answers.{End}
 use Rattle.answers.specs.declared.Answer.{Answer}
 use Rattle.answers.specs.declared.Answer.TheVariants.{Stopped, RamLength, BudgetLimit}
 use Rattle.answers.specs.Answers.{answer_of}
-use Rattle.gpu_core.specs.declared.Activity.{Activity}
-use Rattle.gpu_core.specs.declared.Activity.TheVariants as A
+use Rattle.answers.specs.declared.Activity.{Activity}
+use Rattle.answers.specs.declared.Activity.TheVariants as A
 use Rattle.gpu_core.specs.Machine.{Memory}
 use Rattle.cycle.specs.Runs.{Runs, runs_of}
 use Rattle.machine.specs.declared.State.{State}
@@ -39,9 +38,9 @@ refused answer s memory = result answer 0 s memory
 
 -- Whether the machine still runs.
 abbrev pub activity_of : End → Activity
-activity_of E.Completed = A.Running
-activity_of E.Stopped = A.Stopped
-activity_of (E.Faulted f) = A.Running
+activity_of (Ok A.Running) = A.Running
+activity_of (Ok A.Stopped) = A.Stopped
+activity_of (Err f) = A.Running
 
 abbrev pub result_of : Runs → Result
 result_of r = result (answer_of r.end) r.steps (state_of (activity_of r.end) r.machine) r.machine.memory

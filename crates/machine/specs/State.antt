@@ -1,11 +1,10 @@
 -- The state by value: its flag setters, and the machine that the definitions of an instruction are over.
-use Rattle.std.specs.Prelude.{ℕ, Bool, false, cond, List, replicate}
+use Rattle.std.specs.Prelude.{ℕ, Bool, false, cond, List, replicate, None}
 use Rattle.values.specs.Results.{bit_of, is_one}
 use Rattle.processor.specs.Processor.{Processor}
 use Rattle.gpu_core.specs.declared.Core.{Core}
-use Rattle.gpu_core.specs.declared.Activity.{Activity}
-use Rattle.gpu_core.specs.declared.Activity.TheVariants.{Running}
-use Rattle.gpu_core.specs.declared.Pending.TheVariants.{None}
+use Rattle.answers.specs.declared.Activity.{Activity}
+use Rattle.answers.specs.declared.Activity.TheVariants.{Running}
 use Rattle.gpu_core.specs.Machine.{Memory, Machine, active_in, other_in, machine_with}
 use Rattle.gpu_core.specs.Types.{IsBank, IsCore}
 use Rattle.machine.specs.declared.State.{State}

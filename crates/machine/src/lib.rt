@@ -11,11 +11,11 @@ ghost use Rattle.machine.specs.State.{with_z, with_n, with_c, core_of, state_wit
 ghost use Rattle.machine.specs.Run.{activity_of, ran_with, run_of, step_of};
 ghost use Rattle.machine.specs.Laws.{Laws};
 
-use answers::{Answer, End};
+use answers::{Activity, Answer, End};
 use cycle::from_banks;
-use gpu_core::{Activity, Core, Pending};
+use gpu_core::Core;
 use processor::Gpu;
-use values::{Flags, bit};
+use values::Flags;
 
 // The most instructions that a run may be asked for.
 pub const BUDGET_LIMIT: u64 = 1000000;
@@ -31,7 +31,8 @@ pub struct State {
     pub n: bool,
     pub c: bool,
     pub pc: u32,
-    pub pending: Pending,
+    // The target of a taken jump whose following instruction has not run yet.
+    pub pending: Option<u32>,
     pub remainder: u32,
     // Whether the divide mode is 1.
     pub mode: bool,
@@ -51,21 +52,19 @@ pub struct Ran {
 fn state_with(bank0: [u32; 32], bank1: [u32; 32], k: Core, activity: Activity) -> State
     ensures { result ≡ state_with bank0 bank1 k activity }
 {
-    let f = k.flags;
-    let pending = k.pending;
     State {
-        bank0: bank0,
-        bank1: bank1,
+        bank0,
+        bank1,
         second: k.bank % 2 == 1,
-        z: f.z % 2 == 1,
-        n: f.n % 2 == 1,
-        c: f.c % 2 == 1,
+        z: k.flags.z % 2 == 1,
+        n: k.flags.n % 2 == 1,
+        c: k.flags.c % 2 == 1,
         pc: k.pc,
-        pending: pending,
+        pending: k.pending,
         remainder: k.remainder,
         mode: k.mode % 2 == 1,
         accumulator: k.accumulator,
-        activity: activity,
+        activity,
     }
 }
 
@@ -73,11 +72,7 @@ fn state_with(bank0: [u32; 32], bank1: [u32; 32], k: Core, activity: Activity) -
 fn activity(end: End) -> Activity
     ensures { result ≡ activity_of end }
 {
-    match end {
-        End::Completed => Activity::Running,
-        End::Stopped => Activity::Stopped,
-        End::Faulted(_) => Activity::Running,
-    }
+    end.unwrap_or(Activity::Running)
 }
 
 // A run of at most budget instructions. A refused run changes nothing. The second promise: what the laws and demand 3 assume of
@@ -93,33 +88,32 @@ pub fn run(ram: &mut [u8], state: State, budget: u64) -> Ran
         return Ran {
             answer: Answer::RamLength,
             steps: 0,
-            state: state,
+            state,
         };
     }
     if BUDGET_LIMIT < budget {
         return Ran {
             answer: Answer::BudgetLimit,
             steps: 0,
-            state: state,
+            state,
         };
     }
-    let running = state.activity;
-    match running {
+    match state.activity {
         Activity::Stopped => Ran {
             answer: Answer::Stopped,
             steps: 0,
-            state: state,
+            state,
         },
         Activity::Running => {
             let mut a = state.bank0;
             let mut b = state.bank1;
-            let g = from_banks(&mut a, &mut b, state.core(), ram, budget as u32);
-            let after = g.core;
+            let mut k = state.core();
+            let g = from_banks(&mut a, &mut b, &mut k, ram, budget as u32);
             let end = g.end;
             Ran {
-                answer: end.answer(),
+                answer: Answer::from(end),
                 steps: g.steps,
-                state: state_with(a, b, after, activity(end)),
+                state: state_with(a, b, k, activity(end)),
             }
         }
     }
@@ -130,18 +124,17 @@ impl State {
     fn core(self) -> Core
         ensures { result ≡ core_of self }
     {
-        let pending = self.pending;
         Core {
-            bank: bit(self.second),
+            bank: u32::from(self.second),
             flags: Flags {
-                z: bit(self.z),
-                n: bit(self.n),
-                c: bit(self.c),
+                z: u32::from(self.z),
+                n: u32::from(self.n),
+                c: u32::from(self.c),
             },
             pc: self.pc,
-            pending: pending,
+            pending: self.pending,
             remainder: self.remainder,
-            mode: bit(self.mode),
+            mode: u32::from(self.mode),
             accumulator: self.accumulator,
         }
     }
@@ -153,7 +146,7 @@ impl State {
         self.core().flag_register()
     }
 
-    // The setters of the flags.
+    // The setters of the flags: each names a field, which no parameter can.
     pub fn with_z(mut self, on: bool) -> State
         ensures { result ≡ with_z self on }
     {

@@ -1,10 +1,7 @@
 -- Local RAM, over a processor's constants: a list of bytes, "longs and words high byte first".
-use Rattle.std.specs.Prelude.{ℕ, ◌+◌, ◌-◌, ◌*◌, ◌/◌, ◌%◌, ◌^◌, cond, List, length, ◌==◌, nat_lt, slice_index, slice_set}
+use Rattle.std.specs.Prelude.{ℕ, ◌+◌, ◌-◌, ◌*◌, ◌/◌, ◌%◌, ◌^◌, cond, List, length, ◌==◌, nat_lt, slice_index, slice_set, Result, Ok, Err}
+use Rattle.answers.specs.declared.Fault.{Fault}
 use Rattle.answers.specs.declared.Fault.TheVariants.{BadCounter}
-use Rattle.memory.specs.declared.Fetched.{Fetched}
-use Rattle.memory.specs.declared.Fetched.TheVariants.{Word, Refused}
-use Rattle.memory.specs.declared.Received.{Received}
-use Rattle.memory.specs.declared.Received.TheVariants as I
 use Rattle.processor.specs.Processor.{Processor}
 
 abbrev pub word_at : List ℕ → ℕ → ℕ
@@ -19,24 +16,24 @@ put_long ram i v =
     slice_set (slice_set (slice_set (slice_set ram i (v / 2 ^ 24 % 256)) (i + 1) (v / 2 ^ 16 % 256)) (i + 2) (v / 256 % 256)) (i + 3) (v % 256)
 
 -- "counter odd, or instruction not wholly in local RAM"
-abbrev pub no_word : Fetched
-no_word = Refused BadCounter
+abbrev pub no_word : Result ℕ Fault
+no_word = Err BadCounter
 
 -- The word at a counter.
-abbrev pub fetch_of : Processor → List ℕ → ℕ → Fetched
+abbrev pub fetch_of : Processor → List ℕ → ℕ → Result ℕ Fault
 fetch_of P ram pc =
     cond (nat_lt pc P.base) no_word
     (cond (pc % 2 == 1) no_word
-    (cond (nat_lt (pc - P.base + 1) (length ram)) (Word (word_at ram (pc - P.base))) no_word))
+    (cond (nat_lt (pc - P.base + 1) (length ram)) (Ok (word_at ram (pc - P.base))) no_word))
 
 -- "MOVEI is followed by the low word, then the high word."
-abbrev pub high_of : ℕ → Fetched → Received
-high_of low (Word high) = I.Long (high * 2 ^ 16 + low)
-high_of low (Refused f) = I.Refused f
+abbrev pub high_of : ℕ → Result ℕ Fault → Result ℕ Fault
+high_of low (Ok high) = Ok (high * 2 ^ 16 + low)
+high_of low (Err f) = Err f
 
-abbrev pub low_of : Fetched → Fetched → Received
-low_of (Word low) second = high_of low second
-low_of (Refused f) second = I.Refused f
+abbrev pub low_of : Result ℕ Fault → Result ℕ Fault → Result ℕ Fault
+low_of (Ok low) second = high_of low second
+low_of (Err f) second = Err f
 
-unfoldable pub immediate_of : Processor → List ℕ → ℕ → Received
+unfoldable pub immediate_of : Processor → List ℕ → ℕ → Result ℕ Fault
 immediate_of P ram pc = low_of (fetch_of P ram ((pc + 2) % 2 ^ 32)) (fetch_of P ram ((pc + 4) % 2 ^ 32))

@@ -8,62 +8,42 @@ ghost use Rattle.memory.specs.Memory.{word_at, long_at, put_long, fetch_of, imme
 use answers::Fault;
 use processor::Gpu;
 
-// What a fetch gives: the word, or the refusal.
-#[derive(Clone, Copy)]
-pub enum Fetched {
-    Word(u16),
-    Refused(Fault),
-}
-
-// A long that a register is to receive, or the refusal.
-#[derive(Clone, Copy)]
-pub enum Received {
-    Long(u32),
-    Refused(Fault),
-}
-
-// A byte as a number.
-pub fn wide(x: u8) -> u32
-    ensures { (result ≡ x) × (result < 256) }
-{
-    x as u32
-}
-
 fn word_at(ram: &[u8], at: usize) -> u32
     requires { at + 2 ≤ length ram.now }
     ensures { (result ≡ word_at ram.now at) × (result < 65536) }
 {
-    wide(ram[at]) * 256 + wide(ram[at + 1])
+    u32::from(ram[at]) * 256 + u32::from(ram[at + 1])
 }
 
-pub fn fetch(ram: &[u8], pc: u32) -> Fetched
+// The word at a counter, or the refusal.
+pub fn fetch(ram: &[u8], pc: u32) -> Result<u16, Fault>
     requires { length ram.now ≡ gpu.size }
     ensures { result ≡ fetch_of gpu ram.now pc }
 {
     let at = Gpu::offset(pc) as usize;
     // Even, and below the size, by one test of its bits: the size is a power of two.
     if at - at % Gpu::SIZE + at % 2 == 0 {
-        Fetched::Word(word_at(ram, at) as u16)
+        Ok(word_at(ram, at) as u16)
     } else {
-        Fetched::Refused(Fault::BadCounter)
+        Err(Fault::BadCounter)
     }
 }
 
 // The long of a MOVEI at pc: the low word behind it, then the high word. One test does for both.
-pub fn fetch_long(ram: &[u8], pc: u32) -> Received
+pub fn fetch_long(ram: &[u8], pc: u32) -> Result<u32, Fault>
     requires { length ram.now ≡ gpu.size }
     ensures { result ≡ immediate_of gpu ram.now pc }
 {
-    let at = Gpu::offset(std::num::wrapping_add_u32(pc, 2)) as usize;
+    let at = Gpu::offset(pc.wrapping_add(2)) as usize;
     if at % 2 == 1 {
-        return Received::Refused(Fault::BadCounter);
+        return Err(Fault::BadCounter);
     }
     if at + 3 < ram.len() {
         let low = word_at(ram, at);
         let high = word_at(ram, at + 2);
-        Received::Long(high * 65536 + low)
+        Ok(high * 65536 + low)
     } else {
-        Received::Refused(Fault::BadCounter)
+        Err(Fault::BadCounter)
     }
 }
 
@@ -72,10 +52,10 @@ pub fn long_at(ram: &[u8], at: usize) -> u32
     requires { at + 4 ≤ length ram.now }
     ensures { result ≡ long_at ram.now at }
 {
-    wide(ram[at]) * 16777216
-        + wide(ram[at + 1]) * 65536
-        + wide(ram[at + 2]) * 256
-        + wide(ram[at + 3])
+    u32::from(ram[at]) * 16777216
+        + u32::from(ram[at + 1]) * 65536
+        + u32::from(ram[at + 2]) * 256
+        + u32::from(ram[at + 3])
 }
 
 // The long at a place in RAM becomes v.

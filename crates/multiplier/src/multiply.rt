@@ -34,5 +34,5 @@ pub fn imult(d: u32, s: u32, c: u32) -> Computed
 pub fn imacn(acc: u32, d: u32, s: u32) -> u32
     ensures { result ≡ imacn_of acc d s }
 {
-    std::num::wrapping_add_u32(acc, product(d, s))
+    acc.wrapping_add(product(d, s))
 }

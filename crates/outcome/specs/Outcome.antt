@@ -1,25 +1,27 @@
 -- What an instruction tells, and what comes of it.
-use Rattle.std.specs.Prelude.{ℕ, ◌%◌, List, slice_set}
+use Rattle.std.specs.Prelude.{ℕ, ◌%◌, List, slice_set, None, Ok, Err}
 use Rattle.answers.specs.declared.Fault.{Fault}
-use Rattle.answers.specs.declared.End.{End}
-use Rattle.answers.specs.declared.End.TheVariants.{Completed, Faulted}
+use Rattle.answers.specs.Answers.{End}
+use Rattle.answers.specs.declared.Activity.TheVariants as A
 use Rattle.gpu_core.specs.declared.Core.{Core}
-use Rattle.gpu_core.specs.declared.Pending.TheVariants.{None}
 use Rattle.gpu_core.specs.Core.{moved_of}
 use Rattle.gpu_core.specs.Machine.{Memory, Machine, machine_with}
-use Rattle.outcome.specs.declared.Moved.{Moved}
 
 -- What an instruction tells: how it ended, and the core after it.
+pub record Moved : Type 0 where
+  pub end : End
+  pub core : Core
+
 abbrev pub moved_with : End → Core → Moved
 moved_with end k = record { end = end; core = k }
 
 -- A fault: "state and RAM […] before the faulty step".
 abbrev pub faulted_of : Fault → Core → Moved
-faulted_of f k = moved_with (Faulted f) k
+faulted_of f k = moved_with (Err f) k
 
 -- A completed instruction with nothing pending after it.
 abbrev pub done_of : Core → Moved
-done_of k = moved_with Completed (moved_of k None)
+done_of k = moved_with (Ok A.Running) (moved_of k None)
 
 -- What comes of an instruction: how it ended, and the machine after it.
 pub record Outcome : Type 0 where

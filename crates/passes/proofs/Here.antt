@@ -1,8 +1,9 @@
 -- Rules 1 to 5 at an offset of the code, told by what stands there.
 -- Assumes nothing.
+use Rattle.std.proofs.Common.{Option}
 use Prim.Native.Nat.{ℕ, ◌+◌}
-use mathlib.Core.Path.{◌≡◌, sym, ◌∙◌}
-use mathlib.Core.Bool.{not, ◌&&◌, ◌||◌}
+use mathlib.Core.Path.{◌≡◌, refl, sym, ◌∙◌}
+use mathlib.Core.Bool.{true, not, ◌&&◌, ◌||◌}
 use mathlib.Core.List.{List}
 use native.Mathlib.Omega.{arith}
 use borrow.Author.Tests.{eq-eqb, ne_eqb, lt-ltb, le-ltb, le-leb, lt-leb, eqb-true, eqb-false, ltb-true, ltb-false, leb-true, leb-false}
@@ -11,12 +12,33 @@ use lib.ListN.{length}
 use Rattle.processor.specs.Processor.{Processor}
 use Rattle.items.specs.declared.Item.{Item}
 use Rattle.items.specs.declared.Shape.{Shape}
+use Rattle.items.specs.declared.Shape.TheVariants.{Other, Movei, MovePc, Jr, Jump, Load, Store}
 use Rattle.items.specs.Items.{item_of, shape_of, bytes_of, is_jump, always, is_built}
 use Rattle.rules.specs.Reading.{breaks_slot}
 use Rattle.rules.specs.Check.{is_target, ok1, ok2, ok3, ok4, ok5, jr_ok, jump_ok}
 use Rattle.values.proofs.Booleans.{by}
 use Rattle.reading.specs.Offsets.{Here}
 use Rattle.reading.proofs.Offsets.{item_at_lem, item_here}
+
+module _ (P : Processor) (code : List ℕ) (a : ℕ) where
+  -- what is no JR, and what is no JUMP, is not asked
+  pub jr_other : (u : Shape) → ((n c : ℕ) → u ≡ Jr n c → ⊥) → true ≡ jr_ok P code a u
+  jr_other Other h = refl
+  jr_other (Movei d v) h = refl
+  jr_other MovePc h = refl
+  jr_other (Jr n c) h = absurd (h n c refl)
+  jr_other (Jump r c) h = refl
+  jr_other (Load m) h = refl
+  jr_other (Store m) h = refl
+
+  pub jump_other : (p u : Shape) → ((r c : ℕ) → u ≡ Jump r c → ⊥) → true ≡ jump_ok P code a p u
+  jump_other p Other h = refl
+  jump_other p (Movei d v) h = refl
+  jump_other p MovePc h = refl
+  jump_other p (Jr n c) h = refl
+  jump_other p (Jump r c) h = absurd (h r c refl)
+  jump_other p (Load m) h = refl
+  jump_other p (Store m) h = refl
 
 module _ (P : Processor) where
   -- A test of two offsets is that of their addresses.
@@ -38,9 +60,9 @@ module _ (P : Processor) where
       (λ t. eq-eqb (P.base + a) (P.base + b) (omega (arith, eqb-true a b t)) ∙ sym t)
       (λ t. ne_eqb (P.base + a) (P.base + b) (λ e. eqb-false a b t (omega arith)) ∙ sym t)
 
-  module _ {code : List ℕ} {i : ℕ} {t : Item} (h : Here P code i t) where
+  module _ {code : List ℕ} {i : ℕ} {t : Option Item} (h : Here P code i t) where
     -- where the shape there was told to be s
-    module _ {s : Shape} (told : s ≡ shape_of t) (p : Item) where
+    module _ {s : Shape} (told : s ≡ shape_of t) (p : Option Item) where
       -- and to have n bytes
       module _ {n : ℕ} (e : n ≡ bytes_of s) where
         sums : P.base + i + n ≡ P.base + (i + n)

@@ -1,67 +1,102 @@
--- The lowest number of which a test fails, told by what holds of it: only one number can be that.
+-- The lowest of the rules 1 to 5 of which a test fails, told by what holds of it.
 -- Assumes nothing.
-use Prim.Native.Nat.{ℕ, zero, suc, ◌+◌, ◌-◌, ◌≤◌, ◌<◌}
-use mathlib.Core.Path.{◌≡◌, refl, sym, subst, ◌∙◌}
-use mathlib.Core.Bool.{Bool, true, false, cond}
-use native.Mathlib.Omega.{arith}
-use borrow.Author.Tests.{ltb-true, ltb-false}
-use lib.Dec.{ltb}
-use Rattle.values.proofs.Booleans.{by, no_way}
-use Rattle.passes.specs.Passes.{lowest_from, lowest_of}
+use Rattle.std.proofs.Common.{◌≡◌, ℕ, ◌+◌, ◌<◌, ◌≤◌, Bool, true, false, cond, ltb, List, [], ◌∷◌, Option, Some, None, refl, sym, ap, ◌∙◌, subst, arith, ltb-true, ltb-false}
+use Rattle.verdicts.specs.declared.Rule.{Rule}
+use Rattle.verdicts.specs.declared.Rule.TheVariants.{AllBuilt, JrTarget, JumpTarget, DelaySlot, Ending, Access}
+use Rattle.verdicts.specs.Verdicts.{rule_number, rule_of}
+use Rattle.values.proofs.Booleans.{by}
+use Rattle.rules.proofs.Exact.{rule_of_lem, from_1_to_6}
+use Rattle.passes.specs.Passes.{first_five, lowest_in, lowest_of}
 
--- r is the lowest of the numbers from a given one on, below a limit, of which the test fails, or the limit
-pub record LowestFailing (test : ℕ → Bool) (from limit r : ℕ) : Type 0 where
-  pub least : from ≤ r
-  pub most : r ≤ limit
-  pub kept : (m : ℕ) → from ≤ m → m < r → test m ≡ true
-  pub broken : r < limit → test r ≡ false
+-- the number below which the rules are kept
+abbrev pub limit_of : Option Rule → ℕ
+limit_of None = 6
+limit_of (Some r) = rule_number r
 
-module _ (test : ℕ → Bool) where
-  lowest_from_lem : (n from : ℕ) → LowestFailing test from (from + n) (lowest_from test from n)
-  unfolding lowest_from
-  lowest_from_lem zero from =
+pub limit_least : (w : Option Rule) → 1 ≤ limit_of w
+limit_least None = omega arith
+limit_least (Some r) = (from_1_to_6 r).0
+
+-- a rule is known by its number
+pub same_rule : (q r : Rule) → rule_number q ≡ rule_number r → q ≡ r
+same_rule q r e = sym (rule_of_lem q) ∙ ap rule_of e ∙ rule_of_lem r
+
+-- w is the lowest of the rules 1 to 5 from a number on of which the test fails, or none is
+pub record LowestFrom (test : Rule → Bool) (from : ℕ) (w : Option Rule) : Type 0 where
+  pub least : from ≤ limit_of w
+  pub kept : (r : Rule) → from ≤ rule_number r → rule_number r < limit_of w → test r ≡ true
+  pub fails : (r : Rule) → w ≡ Some r → test r ≡ false
+  pub among : (r : Rule) → w ≡ Some r → rule_number r < 6
+
+-- the rules 1 to 5 from number n on
+abbrev Numbered : ℕ → List Rule → Type 0
+Numbered n [] = n ≡ 6
+Numbered n (r ∷ rs) = (rule_number r ≡ n) × Numbered (n + 1) rs
+
+numbered_most : (n : ℕ) (rs : List Rule) → Numbered n rs → n ≤ 6
+numbered_most n [] e = omega arith
+numbered_most n (r ∷ rs) e = omega (arith, numbered_most (n + 1) rs e.1)
+
+module _ (test : Rule → Bool) where
+  lowest_in_lem : (n : ℕ) (rs : List Rule) → Numbered n rs → LowestFrom test n (lowest_in test rs)
+  lowest_in_lem n [] e =
       record {
         least = omega arith;
-        most = omega arith;
-        kept = λ m a b. absurd (omega (arith, a, b));
-        broken = λ h. absurd (omega (arith, h));
+        kept = λ r a b. absurd (omega (arith, e, a, b));
+        fails = λ r q. cc;
+        among = λ r q. cc;
       }
-  lowest_from_lem (suc n) from = go (test from) refl (lowest_from_lem n (from + 1))
+  lowest_in_lem n (r ∷ rs) e = go (test r) refl (lowest_in_lem (n + 1) rs e.1)
     where
-      go : (t : Bool) → test from ≡ t → LowestFailing test (from + 1) (from + 1 + n) (lowest_from test (from + 1) n)
-          → LowestFailing test from (from + suc n) (cond t (lowest_from test (from + 1) n) from)
-      go true e l =
+      go : (t : Bool) → test r ≡ t → LowestFrom test (n + 1) (lowest_in test rs) → LowestFrom test n (cond t (lowest_in test rs) (Some r))
+      go true h l =
           record {
             least = omega (arith, l.least);
-            most = omega (arith, l.most);
             kept =
-                λ m a b. by (ltb from m)
-                (λ t. l.kept m (omega (arith, ltb-true from m t)) b)
-                (λ t. let q : from ≡ m = omega (arith, a, ltb-false from m t) in subst (λ k. test k ≡ true) q e);
-            broken = λ h. l.broken (omega (arith, h));
+                λ q a b. by (ltb n (rule_number q))
+                (λ t. l.kept q (omega (arith, ltb-true n (rule_number q) t)) b)
+                (λ t. subst (λ s. test s ≡ true) (same_rule r q (omega (arith, e.0, a, ltb-false n (rule_number q) t))) h);
+            fails = l.fails;
+            among = l.among;
           }
-      go false e l =
+      go false h l =
           record {
-            least = omega arith;
-            most = omega arith;
-            kept = λ m a b. absurd (omega (arith, a, b));
-            broken = λ h. e;
+            least = omega (arith, e.0);
+            kept = λ q a b. absurd (omega (arith, e.0, a, b));
+            fails = λ q z. let s : r ≡ q = cc in subst (λ k. test k ≡ false) s h;
+            among = λ q z. let s : r ≡ q = cc in subst (λ k. rule_number k < 6) s (omega (arith, e.0, numbered_most (n + 1) rs e.1));
           }
-
-  lower : {from limit r s : ℕ} → LowestFailing test from limit r → LowestFailing test from limit s → r < s → ⊥
-  lower {from} {limit} {r} {s} l w h = no_way (sym (l.broken (omega (arith, h, w.most))) ∙ w.kept r l.least h)
-
-  same : {from limit r s : ℕ} → LowestFailing test from limit r → LowestFailing test from limit s → r ≡ s
-  same {from} {limit} {r} {s} l w =
-      by (ltb r s)
-      (λ t. absurd (lower l w (ltb-true r s t)))
-      (λ t. by (ltb s r) (λ u. absurd (lower w l (ltb-true s r u))) (λ u. omega (arith, ltb-false r s t, ltb-false s r u)))
 
   -- from the definition, and back
-  pub lowest_of_lem : (limit : ℕ) → 1 ≤ limit → LowestFailing test 1 limit (lowest_of test limit)
-  lowest_of_lem limit h =
-      let e : 1 + (limit - 1) ≡ limit = omega arith in
-      subst (λ m. LowestFailing test 1 m (lowest_of test limit)) e (lowest_from_lem (limit - 1) 1)
+  pub lowest_of_lem : LowestFrom test 1 (lowest_of test)
+  lowest_of_lem = lowest_in_lem 1 first_five (refl, (refl, (refl, (refl, (refl, refl)))))
 
-  pub lowest_is : {limit r : ℕ} → LowestFailing test 1 limit r → r ≡ lowest_of test limit
-  lowest_is {limit} {r} l = same l (lowest_of_lem limit (omega (arith, l.least, l.most)))
+  pub lowest_is : (w : Option Rule) → LowestFrom test 1 w → w ≡ lowest_of test
+  lowest_is None l =
+      rw (
+        l.kept AllBuilt (omega arith) (omega arith),
+        l.kept JrTarget (omega arith) (omega arith),
+        l.kept JumpTarget (omega arith) (omega arith),
+        l.kept DelaySlot (omega arith) (omega arith),
+        l.kept Ending (omega arith) (omega arith),
+      )
+  lowest_is (Some AllBuilt) l = rw (l.fails AllBuilt refl)
+  lowest_is (Some JrTarget) l = rw (l.kept AllBuilt (omega arith) (omega arith), l.fails JrTarget refl)
+  lowest_is (Some JumpTarget) l =
+      rw (l.kept AllBuilt (omega arith) (omega arith), l.kept JrTarget (omega arith) (omega arith), l.fails JumpTarget refl)
+  lowest_is (Some DelaySlot) l =
+      rw (
+        l.kept AllBuilt (omega arith) (omega arith),
+        l.kept JrTarget (omega arith) (omega arith),
+        l.kept JumpTarget (omega arith) (omega arith),
+        l.fails DelaySlot refl,
+      )
+  lowest_is (Some Ending) l =
+      rw (
+        l.kept AllBuilt (omega arith) (omega arith),
+        l.kept JrTarget (omega arith) (omega arith),
+        l.kept JumpTarget (omega arith) (omega arith),
+        l.kept DelaySlot (omega arith) (omega arith),
+        l.fails Ending refl,
+      )
+  lowest_is (Some Access) l = absurd (omega (arith, l.among Access refl))

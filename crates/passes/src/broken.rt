@@ -1,72 +1,58 @@
 // Rules 1 to 5 over the whole code: which is the lowest that is broken, and where.
-ghost use Rattle.std.specs.Prelude.{◌≡◌, not, ◌+◌, ◌≤◌, length};
+ghost use Rattle.std.specs.Prelude.{◌≡◌, not, is_some};
 ghost use Rattle.processor.specs.Processor.{gpu};
-ghost use Rattle.rules.specs.Scan.{found};
 ghost use Rattle.rules.specs.Check.{first_failing};
-ghost use Rattle.reading.specs.Marks.{MarksStarts, MarksTargets};
-ghost use Rattle.reading.specs.Offsets.{Here};
 ghost use Rattle.passes.specs.Passes.{lowest_of, test_of};
 
-use crate::tests::obeys;
-use items::{Item, item_at, shape_of, size};
+use crate::tests::{lowest_here, obeys};
+use items::{item_at, shape_of, size};
 use processor::Gpu;
-use reading::MARKS;
-use verdicts::Hit;
+use reading::{Instruction, Marked};
+use verdicts::Rule;
 
-// The lowest rule below a limit that the item t at offset i, after p, breaks; the limit, if it breaks none.
-fn lowest_here(
-    limit: u32,
-    code: &[u8],
-    starts: &[bool; MARKS],
-    targets: &[bool; MARKS],
-    i: usize,
-    p: Item,
-    t: Item,
-) -> u32
-    requires { (1 ≤ limit) × Here gpu code.now i t × MarksStarts gpu code.now starts.now × MarksTargets gpu code.now targets.now }
-    ensures { result ≡ lowest_of (λ rule. test_of gpu code.now rule (gpu.base + i) p) limit }
-{
-    let mut rule: u32 = 1;
-    while rule < limit {
-        if !obeys(rule, code, starts, targets, i, p, t) {
-            return rule;
-        }
-        rule += 1;
-    }
-    rule
-}
-
-// The lowest of the rules 1 to 5 that is broken anywhere; 6, if none is.
-pub fn lowest_broken(code: &[u8], starts: &[bool; MARKS], targets: &[bool; MARKS]) -> u32
-    requires { (length code.now ≤ gpu.size) × MarksStarts gpu code.now starts.now × MarksTargets gpu code.now targets.now }
-    ensures { result ≡ lowest_of (λ rule. not (found (first_failing gpu code.now (test_of gpu code.now rule)))) 6 }
+// The lowest of the rules 1 to 5 that is broken anywhere.
+pub fn lowest_broken(marked: &Marked) -> Option<Rule>
+    ensures { result ≡ lowest_of (λ rule. not (is_some (first_failing gpu marked.now.code.now (test_of gpu marked.now.code.now rule)))) }
 {
     let mut i: usize = 0;
-    let mut p = Item::Unbuilt;
-    let mut limit: u32 = 6;
-    while i < code.len() {
-        let t = item_at(code, i);
-        limit = lowest_here(limit, code, starts, targets, i, p, t);
+    let mut p = None;
+    let mut lowest = None;
+    // An instruction's length is the step, so that no counter by one stands here.
+    while i < marked.code.len() {
+        let t = item_at(marked.code, i);
+        let at = Instruction {
+            marked,
+            offset: i,
+            item: t,
+            before: p,
+        };
+        lowest = lowest_here(lowest, &at);
         i += size(shape_of(t));
         p = t;
     }
-    limit
+    lowest
 }
 
 // The first address at which one of the rules 1 to 5 is broken.
-pub fn first_broken(rule: u32, code: &[u8], starts: &[bool; MARKS], targets: &[bool; MARKS]) -> Hit
-    requires { (length code.now ≤ gpu.size) × MarksStarts gpu code.now starts.now × MarksTargets gpu code.now targets.now }
-    ensures { result ≡ first_failing gpu code.now (test_of gpu code.now rule) }
+pub fn first_broken(rule: Rule, marked: &Marked) -> Option<u32>
+    ensures { result ≡ first_failing gpu marked.now.code.now (test_of gpu marked.now.code.now rule) }
 {
     let mut i: usize = 0;
-    let mut p = Item::Unbuilt;
-    while i < code.len() {
-        let t = item_at(code, i);
-        if !obeys(rule, code, starts, targets, i, p, t) {
-            return Hit::At(Gpu::BASE + i as u32);
+    let mut p = None;
+    // An instruction's length is the step, so that no counter by one stands here.
+    while i < marked.code.len() {
+        let t = item_at(marked.code, i);
+        let at = Instruction {
+            marked,
+            offset: i,
+            item: t,
+            before: p,
+        };
+        if !obeys(rule, &at) {
+            return Some(Gpu::BASE + i as u32);
         }
         i += size(shape_of(t));
         p = t;
     }
-    Hit::Clear
+    None
 }

@@ -1,150 +1,113 @@
-// Rules 1 to 5 at one instruction: the item t at offset i, after the item p.
-ghost use Rattle.std.specs.Prelude.{◌≡◌, ◌+◌};
+// Rules 1 to 5 at one instruction.
+ghost use Rattle.std.specs.Prelude.{◌≡◌, not, ◌&&◌, ◌+◌};
 ghost use Rattle.processor.specs.Processor.{gpu};
 ghost use Rattle.rules.specs.Reading.{breaks_slot};
 ghost use Rattle.rules.specs.Check.{holds, is_start, ok1, ok2, ok3, ok4, ok5};
-ghost use Rattle.reading.specs.Marks.{MarksStarts, MarksTargets};
-ghost use Rattle.reading.specs.Offsets.{Here};
-ghost use Rattle.passes.specs.Passes.{test_of};
+ghost use Rattle.passes.specs.Passes.{is_rule, lowest_of, test_of};
 
 use branch::jr_target;
 use field::signed_field;
-use items::{Item, Shape, always_jumps, is_built, is_jump, item_at, shape_of, size};
+use items::{Shape, always_jumps, is_jump, item_at, shape_of, size};
 use processor::Gpu;
-use reading::{MARKS, is_marked, is_target};
+use reading::{Instruction, Marked};
+use verdicts::Rule;
 
 fn breaks_slot(s: Shape) -> bool
     ensures { result ≡ breaks_slot s }
 {
-    match s {
-        Shape::Other => false,
-        Shape::Movei(_, _) => true,
-        Shape::MovePc => true,
-        Shape::Jr(_, _) => true,
-        Shape::Jump(_, _) => true,
-        Shape::Load(_) => false,
-        Shape::Store(_) => false,
-    }
+    matches!(
+        s,
+        Shape::Movei(_, _) | Shape::MovePc | Shape::Jr(_, _) | Shape::Jump(_, _)
+    )
 }
 
 // Whether p is a MOVEI into register r of an instruction start.
-fn holds_start(code: &[u8], starts: &[bool; MARKS], p: Shape, r: u32) -> bool
-    requires { MarksStarts gpu code.now starts.now }
-    ensures { result ≡ holds p r (is_start gpu code.now) }
+fn holds_start(marked: &Marked, p: Shape, r: u32) -> bool
+    ensures { result ≡ holds p r (is_start gpu marked.now.code.now) }
 {
     match p {
-        Shape::Other => false,
-        Shape::Movei(d, v) => if d == r { is_marked(starts, v) } else { false },
-        Shape::MovePc => false,
-        Shape::Jr(_, _) => false,
-        Shape::Jump(_, _) => false,
-        Shape::Load(_) => false,
-        Shape::Store(_) => false,
+        Shape::Movei(d, v) => d == r && marked.is_start(v),
+        _ => false,
     }
 }
 
-fn obeys1(code: &[u8], i: usize, p: Item, t: Item) -> bool
-    requires { Here gpu code.now i t }
-    ensures { result ≡ ok1 gpu code.now (gpu.base + i) p }
+fn obeys1(at: &Instruction) -> bool
+    ensures { result ≡ ok1 gpu at.now.marked.now.code.now (gpu.base + at.now.offset) at.now.before }
 {
-    if is_built(t) {
-        i + size(shape_of(t)) <= code.len()
-    } else {
-        false
+    at.item.is_some() && at.offset + size(shape_of(at.item)) <= at.marked.code.len()
+}
+
+fn obeys2(at: &Instruction) -> bool
+    ensures { result ≡ ok2 gpu at.now.marked.now.code.now (gpu.base + at.now.offset) at.now.before }
+{
+    match shape_of(at.item) {
+        Shape::Jr(n, _) => at
+            .marked
+            .is_start(jr_target(Gpu::BASE + at.offset as u32, signed_field(n))),
+        _ => true,
     }
 }
 
-fn obeys2(code: &[u8], starts: &[bool; MARKS], i: usize, p: Item, t: Item) -> bool
-    requires { Here gpu code.now i t × MarksStarts gpu code.now starts.now }
-    ensures { result ≡ ok2 gpu code.now (gpu.base + i) p }
+fn obeys3(at: &Instruction) -> bool
+    ensures { result ≡ ok3 gpu at.now.marked.now.code.now (gpu.base + at.now.offset) at.now.before }
 {
-    let s = shape_of(t);
-    match s {
-        Shape::Other => true,
-        Shape::Movei(_, _) => true,
-        Shape::MovePc => true,
-        Shape::Jr(n, _) => is_marked(starts, jr_target(Gpu::BASE + i as u32, signed_field(n))),
-        Shape::Jump(_, _) => true,
-        Shape::Load(_) => true,
-        Shape::Store(_) => true,
+    match shape_of(at.item) {
+        Shape::Jump(r, _) => holds_start(at.marked, shape_of(at.before), r)
+            && !at.marked.is_target(at.offset),
+        _ => true,
     }
 }
 
-fn obeys3(
-    code: &[u8],
-    starts: &[bool; MARKS],
-    targets: &[bool; MARKS],
-    i: usize,
-    p: Item,
-    t: Item,
-) -> bool
-    requires { Here gpu code.now i t × MarksStarts gpu code.now starts.now × MarksTargets gpu code.now targets.now }
-    ensures { result ≡ ok3 gpu code.now (gpu.base + i) p }
+fn obeys4(at: &Instruction) -> bool
+    ensures { result ≡ ok4 gpu at.now.marked.now.code.now (gpu.base + at.now.offset) at.now.before }
 {
-    let s = shape_of(t);
-    match s {
-        Shape::Other => true,
-        Shape::Movei(_, _) => true,
-        Shape::MovePc => true,
-        Shape::Jr(_, _) => true,
-        Shape::Jump(r, _) => if holds_start(code, starts, shape_of(p), r) {
-            !is_target(code, targets, i)
-        } else {
-            false
-        },
-        Shape::Load(_) => true,
-        Shape::Store(_) => true,
-    }
-}
-
-fn obeys4(code: &[u8], i: usize, p: Item, t: Item) -> bool
-    requires { Here gpu code.now i t }
-    ensures { result ≡ ok4 gpu code.now (gpu.base + i) p }
-{
-    let s = shape_of(t);
+    let s = shape_of(at.item);
     if !is_jump(s) {
         return true;
     }
-    let n = i + size(s);
-    if n < code.len() {
-        !breaks_slot(shape_of(item_at(code, n)))
-    } else {
-        false
-    }
+    let n = at.offset + size(s);
+    n < at.marked.code.len() && !breaks_slot(shape_of(item_at(at.marked.code, n)))
 }
 
-fn obeys5(code: &[u8], targets: &[bool; MARKS], i: usize, p: Item, t: Item) -> bool
-    requires { Here gpu code.now i t × MarksTargets gpu code.now targets.now }
-    ensures { result ≡ ok5 gpu code.now (gpu.base + i) p }
+fn obeys5(at: &Instruction) -> bool
+    ensures { result ≡ ok5 gpu at.now.marked.now.code.now (gpu.base + at.now.offset) at.now.before }
 {
-    if i + size(shape_of(t)) != code.len() {
+    if at.offset + size(shape_of(at.item)) != at.marked.code.len() {
         return true;
     }
-    if always_jumps(shape_of(p)) {
-        !is_target(code, targets, i)
-    } else {
-        false
+    always_jumps(shape_of(at.before)) && !at.marked.is_target(at.offset)
+}
+
+// Whether an instruction obeys a rule. Rule 6 is not asked here. A match on the case and no closures: the test is chosen anew at each
+// instruction, since one reading of the code asks all five.
+pub fn obeys(rule: Rule, at: &Instruction) -> bool
+    ensures { result ≡ test_of gpu at.now.marked.now.code.now rule (gpu.base + at.now.offset) at.now.before }
+{
+    match rule {
+        Rule::AllBuilt => obeys1(at),
+        Rule::JrTarget => obeys2(at),
+        Rule::JumpTarget => obeys3(at),
+        Rule::DelaySlot => obeys4(at),
+        Rule::Ending => obeys5(at),
+        Rule::Access => true,
     }
 }
 
-// Whether the item t at offset i, after p, obeys one of the rules 1 to 5.
-pub fn obeys(
-    rule: u32,
-    code: &[u8],
-    starts: &[bool; MARKS],
-    targets: &[bool; MARKS],
-    i: usize,
-    p: Item,
-    t: Item,
-) -> bool
-    requires { Here gpu code.now i t × MarksStarts gpu code.now starts.now × MarksTargets gpu code.now targets.now }
-    ensures { result ≡ test_of gpu code.now rule (gpu.base + i) p }
+// Whether a rule was found, and is this one.
+fn is_rule(found: Option<Rule>, rule: Rule) -> bool
+    ensures { result ≡ is_rule found rule }
 {
-    match rule {
-        1 => obeys1(code, i, p, t),
-        2 => obeys2(code, starts, i, p, t),
-        3 => obeys3(code, starts, targets, i, p, t),
-        4 => obeys4(code, i, p, t),
-        _ => obeys5(code, targets, i, p, t),
+    found == Some(rule)
+}
+
+// The lowest rule that was broken already, or that an instruction breaks.
+pub fn lowest_here(lowest: Option<Rule>, at: &Instruction) -> Option<Rule>
+    ensures { result ≡ lowest_of (λ rule. not (is_rule lowest rule) && test_of gpu at.now.marked.now.code.now rule (gpu.base + at.now.offset) at.now.before) }
+{
+    for rule in Rule::FIRST_FIVE {
+        if is_rule(lowest, rule) || !obeys(rule, at) {
+            return Some(rule);
+        }
     }
+    None
 }

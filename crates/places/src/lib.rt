@@ -3,44 +3,31 @@
 
 ghost use Rattle.std.specs.Prelude.{◌≡◌};
 ghost use Rattle.processor.specs.Processor.{gpu};
-ghost use Rattle.places.specs.Places.{register_of, is_mapped, is_register, place_of};
+ghost use Rattle.places.specs.Places.{register_of, is_register, place_of};
 
 use answers::Fault;
 use processor::Gpu;
 
-// Where an address leads: to a byte of local RAM, to one of the built chip registers, or to a refusal.
+// Where an address leads: to a byte of local RAM, or to one of the built chip registers.
 #[derive(Clone, Copy)]
 pub enum Place {
     Ram(usize),
     Flags,
     Control,
     Divide,
-    Refused(Fault),
 }
 
-pub fn locate(a: u32) -> Place
+pub fn locate(a: u32) -> Result<Place, Fault>
     ensures { result ≡ place_of gpu a }
 {
     if a % 4 != 0 {
-        return Place::Refused(Fault::Misaligned);
+        return Err(Fault::Misaligned);
     }
     let at = Gpu::offset(a) as usize;
     if at < Gpu::SIZE {
-        Place::Ram(at)
+        Ok(Place::Ram(at))
     } else {
         register_at(a)
-    }
-}
-
-fn is_mapped(p: Place) -> bool
-    ensures { result ≡ is_mapped p }
-{
-    match p {
-        Place::Ram(_) => true,
-        Place::Flags => true,
-        Place::Control => true,
-        Place::Divide => true,
-        Place::Refused(_) => false,
     }
 }
 
@@ -48,16 +35,16 @@ fn is_mapped(p: Place) -> bool
 pub fn is_register(a: u32) -> bool
     ensures { result ≡ is_register gpu a }
 {
-    is_mapped(register_at(a))
+    register_at(a).is_ok()
 }
 
-fn register_at(a: u32) -> Place
+fn register_at(a: u32) -> Result<Place, Fault>
     ensures { result ≡ register_of gpu a }
 {
     match a {
-        Gpu::FLAGS => Place::Flags,
-        Gpu::CONTROL => Place::Control,
-        Gpu::DIVIDE => Place::Divide,
-        _ => Place::Refused(Fault::Unmapped),
+        Gpu::FLAGS => Ok(Place::Flags),
+        Gpu::CONTROL => Ok(Place::Control),
+        Gpu::DIVIDE => Ok(Place::Divide),
+        _ => Err(Fault::Unmapped),
     }
 }

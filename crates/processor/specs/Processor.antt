@@ -1,8 +1,7 @@
 -- What differs between processors: constants and the decoding of a word, in a record that the definitions of the machine and of the check are over.
-use Rattle.std.specs.Prelude.{◌≡◌, ℕ, ◌+◌, ◌/◌, ◌%◌, ◌^◌, ◌<◌, ◌≤◌}
+use Rattle.std.specs.Prelude.{◌≡◌, ℕ, ◌+◌, ◌/◌, ◌%◌, ◌^◌, ◌<◌, ◌≤◌, Result, Ok}
 use Rattle.isa.specs.declared.Instr.{Instr}
-use Rattle.isa.specs.declared.Decoded.{Decoded}
-use Rattle.isa.specs.declared.Decoded.TheVariants.{Built}
+use Rattle.answers.specs.declared.Fault.{Fault}
 use Rattle.isa.specs.Table.{instructions}
 use Rattle.isa.specs.Words.{among, decode_of}
 
@@ -15,7 +14,7 @@ pub record Processor : Type 0 where
   pub control : ℕ
   pub divide : ℕ
   -- the instruction that a word is, if it is built
-  pub decode : ℕ → Decoded
+  pub decode : ℕ → Result Instr Fault
 
 -- "Local RAM is 4,096 lent bytes at F03000h to F03FFFh"; "F02100h gives and takes Z, C, N […] and bank";
 -- "F02114h reads 2001h"; "F0211Ch reads the remainder".
@@ -37,4 +36,4 @@ pub record Sound (P : Processor) : Type 0 where
   pub flags_below : P.flags < P.base
   pub control_below : P.control < P.base
   pub divide_below : P.divide < P.base
-  pub decodes : (w : ℕ) (i : Instr) → P.decode w ≡ Built i → Listed w i
+  pub decodes : (w : ℕ) (i : Instr) → P.decode w ≡ Ok i → Listed w i

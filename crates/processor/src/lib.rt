@@ -24,6 +24,6 @@ impl Gpu {
     pub fn offset(a: u32) -> u32
         ensures { ((result + gpu.base) % 2 ^ 32 ≡ a) × (result < 2 ^ 32) }
     {
-        std::num::wrapping_sub_u32(a, Self::BASE)
+        a.wrapping_sub(Self::BASE)
     }
 }

@@ -1,55 +1,76 @@
 // One row: a word, the contents of its two registers, and the divide mode, at F0300Ch with every flag clear.
+use answers::Fault;
 use effect::{Effect, Operands, effect_at};
-use values::{Computed, Flags};
+use std::fmt;
+use values::Flags;
 
-fn number(name: &[u8], n: u32) {
-    io::write_all(1, name);
-    io::print_hex(1, n as u64, 8);
+#[derive(Clone, Copy)]
+pub(crate) struct Row {
+    name: &'static str,
+    word: u32,
+    s: u32,
+    d: u32,
+    mode: u32,
 }
 
-fn flag(name: &[u8], n: u32) {
-    io::write_all(1, name);
-    io::print_decimal(1, n as u64);
-}
-
-fn flags(f: Flags) {
-    flag(b" z=", f.z);
-    flag(b" n=", f.n);
-    flag(b" c=", f.c);
-}
-
-fn computed(r: Computed) {
-    number(b" ", r.value);
-    flags(r.flags());
-}
-
-fn show(e: Effect) {
-    match e {
-        Effect::Write(_, r) => computed(r),
-        Effect::Flags(f) => flags(f),
-        Effect::Divide(_, r) => {
-            number(b" quotient=", r.quotient);
-            number(b" remainder=", r.remainder);
+impl Row {
+    pub(crate) fn new(name: &'static str, word: u32, s: u32, d: u32, mode: u32) -> Row {
+        Row {
+            name,
+            word,
+            s,
+            d,
+            mode,
         }
-        Effect::Jump(_, t) => number(b" target=", t),
-        _ => (),
+    }
+
+    fn effect(self) -> Result<Effect, Fault> {
+        let x = Operands {
+            s: self.s,
+            d: self.d,
+            pc: 0xF0300C,
+            z: 0,
+            n: 0,
+            c: 0,
+            acc: 0,
+            mode: self.mode,
+        };
+        effect_at(
+            self.word / 1024,
+            self.word / 32 % 32,
+            self.word % 32,
+            &[0; 32],
+            x,
+        )
     }
 }
 
-pub(crate) fn row(name: &[u8], word: u32, s: u32, d: u32, mode: u32) {
-    let x = Operands {
-        s: s,
-        d: d,
-        pc: 0xF0300C,
-        z: 0,
-        n: 0,
-        c: 0,
-        acc: 0,
-        mode: mode,
-    };
-    io::write_all(1, name);
-    io::write_all(1, b":");
-    let bank = [0u32; 32];
-    show(effect_at(word / 1024, word / 32 % 32, word % 32, &bank, x));
-    io::write_all(1, b"\n");
+// The row's name and its result.
+impl fmt::Display for Row {
+    fn fmt<W: fmt::Write>(&self, f: &mut fmt::Formatter<W>) -> fmt::Result {
+        write!(f, "{}:", self.name)?;
+        match self.effect() {
+            Ok(Effect::Write(_, r)) => write!(f, " {:08x}{}", r.value, Shown(r.flags())),
+            Ok(Effect::Flags(flags)) => write!(f, "{}", Shown(flags)),
+            Ok(Effect::Divide(_, r)) => {
+                write!(
+                    f,
+                    " quotient={:08x} remainder={:08x}",
+                    r.quotient, r.remainder
+                )
+            }
+            Ok(Effect::Jump(_, target)) => write!(f, " target={target:08x}"),
+            _ => Ok(()),
+        }
+    }
+}
+
+// Flags as a row shows them.
+#[derive(Clone, Copy)]
+struct Shown(Flags);
+
+impl fmt::Display for Shown {
+    fn fmt<W: fmt::Write>(&self, f: &mut fmt::Formatter<W>) -> fmt::Result {
+        write!(f, " z={} n={} c={}", self.0.z, self.0.n, self.0.c)
+    }
 }

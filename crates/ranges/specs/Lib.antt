@@ -1,2 +1,2 @@
+pub mod Interval
 pub mod Ranges
-pub mod Ordered

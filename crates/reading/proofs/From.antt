@@ -8,9 +8,8 @@ use native.Mathlib.Omega.{arith}
 use lib.Dec.{ltb}
 use lib.ListN.{length}
 use borrow.Author.Tests.{ltb-true, ltb-false}
+use Rattle.std.proofs.Common.{Option, Some, None}
 use Rattle.processor.specs.Processor.{Processor}
-use Rattle.verdicts.specs.declared.Hit.{Hit}
-use Rattle.verdicts.specs.declared.Hit.TheVariants as H
 use Rattle.rules.specs.Reading.{end_of, after}
 use Rattle.rules.specs.Scan.{scan, first_bad}
 use Rattle.values.proofs.Booleans.{by}
@@ -18,7 +17,7 @@ use Rattle.rules.proofs.Scan.{scan_past, scan_on, scan_hit, after_later}
 
 module _ (P : Processor) (code : List ℕ) (X : Type 0) (x₀ : X) (flow : ℕ → X → X) (test : ℕ → X → Bool) where
   -- what the scan finds from the address a on
-  unfoldable pub from_there : ℕ → X → Hit
+  unfoldable pub from_there : ℕ → X → Option ℕ
   from_there a x = scan P code X x₀ flow test (end_of P code - a) a x
 
   enough : (n m a : ℕ) (x : X) → end_of P code ≤ a + n → end_of P code ≤ a + m → scan P code X x₀ flow test n a x ≡ scan P code X x₀ flow test m a x
@@ -42,7 +41,7 @@ module _ (P : Processor) (code : List ℕ) (X : Type 0) (x₀ : X) (flow : ℕ �
   unfolding from_there first_bad
   from_first = enough (length code) (end_of P code - P.base) P.base x₀ (omega arith) (omega arith)
 
-  pub from_past : (a : ℕ) (x : X) → end_of P code ≤ a → from_there a x ≡ H.Clear
+  pub from_past : (a : ℕ) (x : X) → end_of P code ≤ a → from_there a x ≡ None
   unfolding from_there
   from_past a x h = scan_past P code X x₀ flow test (end_of P code - a) a x h
 
@@ -53,7 +52,7 @@ module _ (P : Processor) (code : List ℕ) (X : Type 0) (x₀ : X) (flow : ℕ �
       ∙ scan_on P code X x₀ flow test (end_of P code) a x h t
       ∙ enough (end_of P code) (end_of P code - after P code a) (after P code a) (flow a x) (omega arith) (omega arith)
 
-  pub from_hit : (a : ℕ) (x : X) → a < end_of P code → test a x ≡ false → from_there a x ≡ H.At a
+  pub from_hit : (a : ℕ) (x : X) → a < end_of P code → test a x ≡ false → from_there a x ≡ Some a
   unfolding from_there
   from_hit a x h t =
       enough (end_of P code - a) (suc (end_of P code)) a x (omega arith) (omega arith) ∙ scan_hit P code X x₀ flow test (end_of P code) a x h t

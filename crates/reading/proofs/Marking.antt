@@ -1,5 +1,6 @@
 -- A pass that marks addresses: the marks and the scan of what is left make up the scan of the whole.
 -- Assumes nothing.
+use Rattle.std.proofs.Common.{Option}
 use Prim.Native.Nat.{ℕ, zero, suc, ◌+◌, ◌-◌, ◌≤◌, ◌<◌}
 use mathlib.Core.Path.{◌≡◌, refl, sym, subst, ◌∙◌, ap}
 use mathlib.Core.Bool.{Bool, true, false, not, ◌||◌}
@@ -11,10 +12,11 @@ use lib.Dec.{ltb, eqb}
 use lib.ListN.{length, get_or, replicate, length-set}
 use lib.Seq.{get_or-set_same, get_or-set_other}
 use borrow.Author.Tests.{lt-ltb, le-ltb, ltb-false, eqb-true, eqb-false}
+use Rattle.std.proofs.Common.{is_some}
 use Rattle.processor.specs.Processor.{Processor}
 use Rattle.items.specs.declared.Item.{Item}
 use Rattle.items.specs.Items.{item_of, shape_of, bytes_of}
-use Rattle.rules.specs.Scan.{found, first_bad}
+use Rattle.rules.specs.Scan.{first_bad}
 use Rattle.values.proofs.Booleans.{by}
 use Rattle.reading.specs.Marks.{mark_count, mark_at, mark, Near}
 use Rattle.reading.proofs.From.{from_there, from_first, from_past, from_on, from_hit}
@@ -24,7 +26,7 @@ or_true : (a : Bool) → (a || true) ≡ true
 or_true true = refl
 or_true false = refl
 
-or_false : (a : Bool) → (a || false) ≡ a
+pub or_false : (a : Bool) → (a || false) ≡ a
 or_false true = refl
 or_false false = refl
 
@@ -90,22 +92,22 @@ module _ (P : Processor) (code : List ℕ) (X : Type 0) (x₀ : X) (flow : ℕ �
   unfoldable pub Marked : ℕ → X → List Bool → Type 0
   Marked i x m =
       (t : ℕ) → S t
-      → found (first_bad P code X x₀ flow (λ a y. not (goes t a y)))
-      ≡ (mark_at P m t || found (from_there P code X x₀ flow (λ a y. not (goes t a y)) (P.base + i) x))
+      → is_some (first_bad P code X x₀ flow (λ a y. not (goes t a y)))
+      ≡ (mark_at P m t || is_some (from_there P code X x₀ flow (λ a y. not (goes t a y)) (P.base + i) x))
 
   pub marked_first : (n : ℕ) → Marked 0 x₀ (replicate n false)
   unfolding Marked
-  marked_first n t s = rw (none_marked P, add-zero) (ap found (from_first P code X x₀ flow (λ a y. not (goes t a y))))
+  marked_first n t s = rw (none_marked P, add-zero) (ap is_some (from_first P code X x₀ flow (λ a y. not (goes t a y))))
 
-  pub marked_on : (i : ℕ) (x : X) (m m' : List Bool) (w : Item) → Marked i x m → i < length code → w ≡ item_of P code i → (n : ℕ) → n ≡ bytes_of (shape_of w)
+  pub marked_on : (i : ℕ) (x : X) (m m' : List Bool) (w : Option Item) → Marked i x m → i < length code → w ≡ item_of P code i → (n : ℕ) → n ≡ bytes_of (shape_of w)
       → ((t : ℕ) → S t → mark_at P m' t ≡ (mark_at P m t || goes t (P.base + i) x))
       → Marked (i + n) (flow (P.base + i) x) m'
   unfolding Marked
   marked_on i x m m' w e h g n z f t s = e t s ∙ go (goes t (P.base + i) x) refl
     where
       go : (b : Bool) → goes t (P.base + i) x ≡ b
-          → (mark_at P m t || found (from_there P code X x₀ flow (λ a y. not (goes t a y)) (P.base + i) x))
-          ≡ (mark_at P m' t || found (from_there P code X x₀ flow (λ a y. not (goes t a y)) (P.base + (i + n)) (flow (P.base + i) x)))
+          → (mark_at P m t || is_some (from_there P code X x₀ flow (λ a y. not (goes t a y)) (P.base + i) x))
+          ≡ (mark_at P m' t || is_some (from_there P code X x₀ flow (λ a y. not (goes t a y)) (P.base + (i + n)) (flow (P.base + i) x)))
       go true q =
           rw (f t s, q, or_true, from_hit P code X x₀ flow (λ a y. not (goes t a y)) (P.base + i) x (omega arith) (ap not q), or_true)
       go false q =
@@ -122,7 +124,7 @@ module _ (P : Processor) (code : List ℕ) (X : Type 0) (x₀ : X) (flow : ℕ �
   marked_carry i m e h = subst (λ z. Marked i z m) e h
 
   pub marked_past : (i : ℕ) (x : X) (m : List Bool) → Marked i x m → length code ≤ i
-      → (t : ℕ) → S t → mark_at P m t ≡ found (first_bad P code X x₀ flow (λ a y. not (goes t a y)))
+      → (t : ℕ) → S t → mark_at P m t ≡ is_some (first_bad P code X x₀ flow (λ a y. not (goes t a y)))
   unfolding Marked
   marked_past i x m e h t s =
       sym (e t s ∙ rw (from_past P code X x₀ flow (λ a y. not (goes t a y)) (P.base + i) x (omega arith), or_false))

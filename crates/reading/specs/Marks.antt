@@ -1,5 +1,5 @@
 -- Marks of addresses, one for each offset from the base: what an array of them says of the code.
-use Rattle.std.specs.Prelude.{ℕ, ◌+◌, ◌-◌, ◌≤◌, ◌<◌, ◌≡◌, Bool, true, false, cond, List, eqb, ltb, get_or, set, replicate}
+use Rattle.std.specs.Prelude.{ℕ, ◌+◌, ◌-◌, ◌≤◌, ◌<◌, ◌≡◌, Bool, true, false, cond, List, eqb, ltb, get_or, set, replicate, Option, Some, None}
 use Rattle.processor.specs.Processor.{Processor}
 use Rattle.items.specs.declared.Shape.{Shape}
 use Rattle.rules.specs.Check.{holds, leads, is_start, is_target}
@@ -32,10 +32,15 @@ module _ (P : Processor) where
   pub record MarksTargets (code : List ℕ) (marks : List Bool) : Type 0 where
     pub targets : (t : ℕ) → Near t → mark_at marks t ≡ is_target P code t
 
-  -- v is the value of a MOVEI into r, as far as addresses with a mark can tell
-  pub record MovedInto (p : Shape) (r v : ℕ) : Type 0 where
-    pub value : (t : ℕ) → Near t → eqb v t ≡ holds p r (λ u. eqb u t)
+-- whether a value is there, and is t
+abbrev pub tells : Option ℕ → ℕ → Bool
+tells None t = false
+tells (Some v) t = eqb v t
 
-  -- r is the target of an instruction of the shape s at a, after one of the shape p, as far as addresses with a mark can tell
-  pub record Targets (a : ℕ) (p s : Shape) (r : ℕ) : Type 0 where
-    pub target : (t : ℕ) → Near t → eqb r t ≡ leads a p s t
+-- v is the value of a MOVEI into r
+pub record MovedInto (p : Shape) (r : ℕ) (v : Option ℕ) : Type 0 where
+  pub value : (t : ℕ) → tells v t ≡ holds p r (λ u. eqb u t)
+
+-- r is the target of an instruction of the shape s at a, after one of the shape p
+pub record Targets (a : ℕ) (p s : Shape) (r : Option ℕ) : Type 0 where
+  pub target : (t : ℕ) → tells r t ≡ leads a p s t

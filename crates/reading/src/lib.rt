@@ -4,8 +4,9 @@
 
 ghost use Rattle.std.specs.Prelude.{◌≡◌, ◌+◌, ◌≤◌, ◌<◌, length};
 ghost use Rattle.processor.specs.Processor.{gpu};
-ghost use Rattle.rules.specs.Check.{is_target};
+ghost use Rattle.rules.specs.Check.{is_start, is_target};
 ghost use Rattle.reading.specs.Marks.{mark_count, mark_at, mark, unmarked, MovedInto, Targets, MarksStarts, MarksTargets};
+ghost use Rattle.reading.specs.Offsets.{Here};
 
 use branch::jr_target;
 use field::signed_field;
@@ -15,7 +16,7 @@ use processor::Gpu;
 // How many addresses have a mark: those of RAM, and a few behind it, where the last instruction may end.
 pub const MARKS: usize = Gpu::SIZE + 8;
 
-pub fn is_marked(marks: &[bool; MARKS], t: u32) -> bool
+fn is_marked(marks: &[bool; MARKS], t: u32) -> bool
     ensures { result ≡ mark_at gpu marks.now t }
 {
     if t < Gpu::BASE {
@@ -36,58 +37,88 @@ fn set_mark(marks: &mut [bool; MARKS], t: u32)
     }
 }
 
-// The value of a MOVEI into the register of a JUMP; 0, which is no address of the code, where there is none.
-fn moved_into(p: Shape, r: u32) -> u32
-    ensures { MovedInto gpu p r result }
+// The value of a MOVEI into the register of a JUMP.
+fn moved_into(p: Shape, r: u32) -> Option<u32>
+    ensures { MovedInto p r result }
 {
     match p {
-        Shape::Other => 0,
-        Shape::Movei(d, v) => if d == r { v } else { 0 },
-        Shape::MovePc => 0,
-        Shape::Jr(_, _) => 0,
-        Shape::Jump(_, _) => 0,
-        Shape::Load(_) => 0,
-        Shape::Store(_) => 0,
+        Shape::Movei(d, v) if d == r => Some(v),
+        _ => None,
     }
 }
 
-// The target of an instruction of the shape s at a, after one of the shape p; 0 where it has none.
-fn target(a: u32, p: Shape, s: Shape) -> u32
-    ensures { Targets gpu a p s result }
+// The target of an instruction of the shape s at a, after one of the shape p.
+fn target(a: u32, p: Shape, s: Shape) -> Option<u32>
+    ensures { Targets a p s result }
 {
     match s {
-        Shape::Other => 0,
-        Shape::Movei(_, _) => 0,
-        Shape::MovePc => 0,
-        Shape::Jr(n, _) => jr_target(a, signed_field(n)),
+        Shape::Jr(n, _) => Some(jr_target(a, signed_field(n))),
         Shape::Jump(r, _) => moved_into(p, r),
-        Shape::Load(_) => 0,
-        Shape::Store(_) => 0,
+        _ => None,
     }
 }
 
-// Marks the instruction starts and the targets in one reading of the code. The marks that are lent are clear.
-pub fn mark_code(code: &[u8], starts: &mut [bool; MARKS], targets: &mut [bool; MARKS])
-    requires { (length code.now ≤ gpu.size) × (starts.old ≡ unmarked gpu) × (targets.old ≡ unmarked gpu) }
-    ensures { MarksStarts gpu code.now starts.new × MarksTargets gpu code.now targets.new }
-{
-    let mut i: usize = 0;
-    let mut p = Item::Unbuilt;
-    while i < code.len() {
-        let a = Gpu::BASE + i as u32;
-        let t = item_at(code, i);
-        let s = shape_of(t);
-        set_mark(starts, a);
-        set_mark(targets, target(a, shape_of(p), s));
-        i += size(s);
-        p = t;
+// The code, with the marks of its instruction starts and of its targets.
+#[derive(Drop)]
+pub struct Marked<'a> {
+    pub code: &'a [u8],
+    starts: [bool; MARKS],
+    targets: [bool; MARKS],
+    pub ghost fits: { length code.now ≤ gpu.size },
+    pub ghost marks_starts: { MarksStarts gpu code.now starts },
+    pub ghost marks_targets: { MarksTargets gpu code.now targets },
+}
+
+impl<'a> Marked<'a> {
+    // Marks the instruction starts and the targets in one reading of the code.
+    pub fn of(code: &'a [u8]) -> Marked<'a>
+        requires { length code.now ≤ gpu.size }
+        ensures { result.code.now ≡ code.now }
+    {
+        let mut starts = [false; MARKS];
+        let mut targets = [false; MARKS];
+        let mut i: usize = 0;
+        let mut p = None;
+        // An instruction's length is the step, so that no counter by one stands here.
+        while i < code.len() {
+            let a = Gpu::BASE + i as u32;
+            let t = item_at(code, i);
+            let s = shape_of(t);
+            set_mark(&mut starts, a);
+            if let Some(to) = target(a, shape_of(p), s) {
+                set_mark(&mut targets, to);
+            }
+            i += size(s);
+            p = t;
+        }
+        Marked {
+            code,
+            starts,
+            targets,
+        }
+    }
+
+    pub fn is_start(&self, t: u32) -> bool
+        ensures { result ≡ is_start gpu self.now.code.now t }
+    {
+        is_marked(&self.starts, t)
+    }
+
+    // Whether the instruction at an offset is a target.
+    pub fn is_target(&self, i: usize) -> bool
+        requires { i < mark_count gpu }
+        ensures { result ≡ is_target gpu self.now.code.now (gpu.base + i) }
+    {
+        is_marked(&self.targets, Gpu::BASE + i as u32)
     }
 }
 
-// Whether the instruction at an offset is a target.
-pub fn is_target(code: &[u8], targets: &[bool; MARKS], i: usize) -> bool
-    requires { (i < mark_count gpu) × MarksTargets gpu code.now targets.now }
-    ensures { result ≡ is_target gpu code.now (gpu.base + i) }
-{
-    is_marked(targets, Gpu::BASE + i as u32)
+// An instruction of the code, as a pass comes to it: the item at an offset, and the item before it.
+#[derive(Clone, Copy)]
+pub struct Instruction<'m, 'c> {
+    pub marked: &'m Marked<'c>,
+    pub offset: usize,
+    pub item: Option<Item>,
+    pub before: Option<Item>,
+    pub ghost here: { Here gpu marked.now.code.now offset item },
 }

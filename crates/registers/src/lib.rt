@@ -22,8 +22,6 @@ pub fn settle(a: &mut [u32; 32], b: &mut [u32; 32], same: bool)
     ensures { (a.new ≡ cond same a.old b.old) × (b.new ≡ cond same b.old a.old) }
 {
     if !same {
-        let t = *a;
-        *a = *b;
-        *b = t;
+        std::mem::swap(a, b);
     }
 }

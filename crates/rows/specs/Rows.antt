@@ -1,5 +1,6 @@
 -- The rows of paper 01 that are marked p, as one table under one statement, about the definitions that the promises cite.
-use Rattle.std.specs.Prelude.{ℕ, ◌≡◌, List, [], ◌∷◌, map}
+use Rattle.std.specs.Prelude.{ℕ, ◌≡◌, List, [], ◌∷◌, map, Result, Ok, Err}
+use Rattle.answers.specs.declared.Fault.{Fault}
 use Rattle.isa.specs.Words.{decode_of}
 use Rattle.values.specs.declared.Flags.{Flags}
 use Rattle.values.specs.Results.{flags_of}
@@ -26,22 +27,22 @@ shown_flags f = flags f.z f.n f.c
 abbrev shown_value : ℕ → ℕ → Flags → Shown
 shown_value d n f = value d n f.z f.n f.c
 
-abbrev pub shown : Effect → Shown
-shown (E.Write d r) = shown_value d r.value (flags_of r)
-shown (E.Flags f) = shown_flags f
-shown (E.Divide d q) = division d q.quotient q.remainder
-shown (E.Jump c t) = jump c t
-shown (E.Refused f) = other
-shown E.Nothing = other
-shown (E.Keep d v) = other
-shown (E.Product r) = other
-shown (E.Accumulate v) = other
-shown (E.ToOther d v) = other
-shown (E.FromOther s d) = other
-shown (E.Immediate d) = other
-shown (E.Counter d) = other
-shown (E.Load d address) = other
-shown (E.Store address v) = other
+abbrev pub shown : Result Effect Fault → Shown
+shown (Ok (E.Write d r)) = shown_value d r.value (flags_of r)
+shown (Ok (E.Flags f)) = shown_flags f
+shown (Ok (E.Divide d q)) = division d q.quotient q.remainder
+shown (Ok (E.Jump c t)) = jump c t
+shown (Err f) = other
+shown (Ok E.Nothing) = other
+shown (Ok (E.Keep d v)) = other
+shown (Ok (E.Product r)) = other
+shown (Ok (E.Accumulate v)) = other
+shown (Ok (E.ToOther d v)) = other
+shown (Ok (E.FromOther s d)) = other
+shown (Ok (E.Immediate d)) = other
+shown (Ok (E.Counter d)) = other
+shown (Ok (E.Load d address)) = other
+shown (Ok (E.Store address v)) = other
 
 -- A word at an address, the contents of its source and destination registers, the divide mode, and what comes of it, where C
 -- may be the one before.

@@ -1,8 +1,9 @@
 -- An access that rule 6 lets through leads to RAM from an address on, or to a built register.
 -- Assumes nothing.
-use Rattle.std.proofs.Common.{◌≡◌, ℕ, ◌+◌, ◌-◌, ◌%◌, ◌<◌, ◌≤◌, true, eqb, List, sym, ap, ◌∙◌, arith, le-ltb, lt-ltb, eq-eqb}
+use Rattle.std.proofs.Common.{◌≡◌, ℕ, ◌+◌, ◌-◌, ◌%◌, ◌<◌, ◌≤◌, true, eqb, List, sym, ap, ◌∙◌, arith, le-ltb, lt-ltb, eq-eqb, Result, Ok, Err}
 use Rattle.processor.specs.Processor.{Processor, Sound}
 use Rattle.places.specs.Places.{is_mapped, is_register, place_of}
+use Rattle.answers.specs.declared.Fault.{Fault}
 use Rattle.places.specs.declared.Place.{Place}
 use Rattle.places.specs.declared.Place.TheVariants as M
 use Rattle.places.proofs.Places.{Register, is_flags, is_control, is_divide, is_none, register_at}
@@ -14,19 +15,19 @@ use Rattle.ranges.proofs.Covers.{In}
 
 module _ (P : Processor) (sound : Sound P) (code : List ℕ) (from : ℕ) (low : P.base ≤ from) (x : Range) where
   -- a place that the range x of addresses allows
-  abbrev pub Allowed : Place → Type 0
-  Allowed (M.Ram at) = from ≤ P.base + at
-  Allowed M.Flags = is_exactly x P.flags ≡ true
-  Allowed M.Control = Unit {0}
-  Allowed M.Divide = Unit {0}
-  Allowed (M.Refused f) = ⊥
+  abbrev pub Allowed : Result Place Fault → Type 0
+  Allowed (Ok (M.Ram at)) = from ≤ P.base + at
+  Allowed (Ok M.Flags) = is_exactly x P.flags ≡ true
+  Allowed (Ok M.Control) = Unit {0}
+  Allowed (Ok M.Divide) = Unit {0}
+  Allowed (Err f) = ⊥
 
   module _ (a : ℕ) (i : In x a) (r : Reaches P code from x) where
     four : eqb (a % 4) 0 ≡ true
     four = eq-eqb (a % 4) 0 (i.multiple r.is_aligned)
 
     -- one exact register
-    register : x.low ≡ a → x.high ≡ a → {p : Place} → Register P a p → is_mapped p ≡ true → (a < P.base) × Allowed p
+    register : x.low ≡ a → x.high ≡ a → {p : Result Place Fault} → Register P a p → is_mapped p ≡ true → (a < P.base) × Allowed p
     register l h (is_flags e) m =
         (omega (arith, e, sound.flags_below), and_i (eq-eqb x.low P.flags (l ∙ e)) (eq-eqb x.high P.flags (h ∙ e)))
     register l h (is_control e) m = (omega (arith, e, sound.control_below), tt)

@@ -1,11 +1,11 @@
 -- An instruction's class and its effect agree: what the rules say that it writes, reads or reaches is what a step does.
 -- Assumes nothing.
-use Rattle.std.proofs.Common.{◌≡◌, ℕ, ◌+◌, ◌-◌, ◌*◌, ◌/◌, ◌%◌, ◌^◌, ◌≤◌, List, get_or, sym, refl, ap, ◌∙◌, subst, arith}
+use Rattle.std.proofs.Common.{◌≡◌, ℕ, ◌+◌, ◌-◌, ◌*◌, ◌/◌, ◌%◌, ◌^◌, ◌≤◌, List, get_or, sym, refl, ap, ◌∙◌, subst, arith, Result, Ok, Err}
 use lib.Bits.{bit_and}
-use Rattle.isa.specs.declared.Decoded.{Decoded}
-use Rattle.isa.specs.declared.Decoded.TheVariants as D
+use Rattle.answers.specs.declared.Fault.{Fault}
 use Rattle.field.proofs.Bounds.{quick_most}
 use Rattle.field.specs.Fields.{quick_of, signed_field_of}
+use Rattle.isa.specs.declared.Instr.{Instr}
 use Rattle.isa.specs.Table.{instructions}
 use Rattle.branch.specs.Jump.{jr_target_of}
 use Rattle.shifter.specs.Shift.{left_of}
@@ -20,8 +20,7 @@ use Rattle.effect.specs.declared.Effect.{Effect}
 use Rattle.effect.specs.declared.Effect.TheVariants as E
 use Rattle.effect.proofs.EffectWidths.{Each, ◌⊗◌, found}
 use Rattle.processor.specs.Processor.{Processor, Sound}
-use Rattle.items.specs.declared.Item.TheVariants.{Built}
-use Rattle.items.specs.Items.{item_in}
+use Rattle.items.specs.Items.{built, item_in, class_in, long_in}
 
 -- what an effect writes to the active bank, where it touches neither RAM nor the counter: nothing, a value in a register, or in a
 -- register what the other bank has
@@ -29,11 +28,10 @@ pub data BankWrite : Type 0 where
   nothing : BankWrite
   value : ℕ → ℕ → BankWrite
   other : ℕ → BankWrite
-  -- it touches RAM or the counter, or is refused
+  -- it touches RAM or the counter
   beyond : BankWrite
 
 abbrev pub bank_write : Effect → BankWrite
-bank_write (E.Refused f) = beyond
 bank_write E.Nothing = nothing
 bank_write (E.Write d r) = value (d % 32) r.value
 bank_write (E.Keep d n) = value (d % 32) n
@@ -157,15 +155,15 @@ module _ (a : List ℕ) (s d : ℕ) (x : Operands) (es : x.s ≡ get_or a s 0) (
       ⊗ (small, tt)
       ⊗ tt
 
--- what stands at an address is of a class: its effect agrees with it, and the long behind it is the one that it has
+-- what stands at an address is of a class: it has an effect, which agrees with it, and the long behind it is the one that it has
 module _ (P : Processor) (sound : Sound P) (a : List ℕ) (w : ℕ) (x : Operands) (es : x.s ≡ get_or a (w / 32 % 32) 0) (ed : x.d ≡ get_or a (w % 32) 0) where
-  pub agrees : (long : ℕ) (c : Class) (v : ℕ) → item_in (P.decode w) long ≡ Built c v → Agrees a x.pc c (effect_in (P.decode w) a x) × (long ≡ v)
+  pub agrees : (long : ℕ) (c : Class) (v : ℕ) → item_in (P.decode w) long ≡ built c v → (f : Effect) × (effect_in (P.decode w) a x ≡ Ok f) × Agrees a x.pc c f × (long ≡ v)
   agrees long c v = go (P.decode w) refl
     where
-      go : (t : Decoded) → P.decode w ≡ t → item_in t long ≡ Built c v → Agrees a x.pc c (effect_in t a x) × (long ≡ v)
-      go (D.Built i) q e =
+      go : (t : Result Instr Fault) → P.decode w ≡ t → item_in t long ≡ built c v → (f : Effect) × (effect_in t a x ≡ Ok f) × Agrees a x.pc c f × (long ≡ v)
+      go (Ok i) q e =
           let l = sound.decodes w i q in
           let h = found (λ j. Agrees a x.pc (class_of j) (effect_of j a x)) l.opcode tt (instructions (w / 32 % 32) (w % 32)) (each a (w / 32 % 32) (w % 32) x es ed (omega arith)) in
-          let same : class_of i ≡ c = cc in
-          (subst (λ k. Agrees a x.pc k (effect_of i a x)) same (subst (λ j. Agrees a x.pc (class_of j) (effect_of j a x)) (sym l.is) h), cc)
-      go (D.Refused f) q e = let z : ◌≡◌ {A = ℕ} 0 1 = cc in absurd (omega arith)
+          let same : class_of i ≡ c = ap class_in e in
+          (effect_of i a x, refl, subst (λ k. Agrees a x.pc k (effect_of i a x)) same (subst (λ j. Agrees a x.pc (class_of j) (effect_of j a x)) (sym l.is) h), ap long_in e)
+      go (Err f) q e = let z : ◌≡◌ {A = ℕ} 0 1 = cc in absurd (omega arith)

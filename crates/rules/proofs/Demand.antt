@@ -1,12 +1,11 @@
 -- Demand 3: an admitted program's every run is safe. The invariant holds at the start, every step keeps it, and a run is steps.
 -- Assumes nothing.
-use Rattle.std.proofs.Common.{◌≡◌, ℕ, zero, suc, ◌+◌, ◌<◌, ◌≤◌, List, [], ◌∷◌, length, take, sym, refl, ap, ◌∙◌, subst, arith, length-take, eq-eqb}
+use Rattle.std.proofs.Common.{◌≡◌, ℕ, zero, suc, ◌+◌, ◌<◌, ◌≤◌, List, [], ◌∷◌, length, take, sym, refl, ap, ◌∙◌, subst, arith, length-take, eq-eqb, Ok, Err, None}
 use Rattle.processor.specs.Processor.{Processor, Sound}
-use Rattle.answers.specs.declared.End.{End}
-use Rattle.answers.specs.declared.End.TheVariants.{Completed, Stopped, Faulted}
+use Rattle.answers.specs.Answers.{End}
 use Rattle.answers.specs.Answers.{number_of, answer_of}
-use Rattle.gpu_core.specs.declared.Activity.{Activity}
-use Rattle.gpu_core.specs.declared.Activity.TheVariants as A
+use Rattle.answers.specs.declared.Activity.{Activity}
+use Rattle.answers.specs.declared.Activity.TheVariants as A
 use Rattle.gpu_core.specs.Machine.{Memory, Machine}
 use Rattle.gpu_core.specs.Types.{IsMemory, IsMachine}
 use Rattle.cpu.specs.Step.{advance_of}
@@ -17,9 +16,7 @@ use Rattle.machine.specs.State.{machine_of, state_of, IsState}
 use Rattle.machine.specs.Run.{budget_limit, Result, activity_of, started_of, run_of}
 use Rattle.machine.proofs.Laws.{ran, by_way}
 use Rattle.machine.proofs.Machines.{state_machine, machine_state, machine_typed}
-use Rattle.verdicts.specs.declared.Verdict.TheVariants.{Admitted}
 use Rattle.rules.specs.Check.{check_of}
-use Rattle.items.specs.declared.Item.TheVariants.{Unbuilt}
 use Rattle.rules.specs.Reading.{first}
 use Rattle.ranges.specs.Ranges.{unknown}
 use Rattle.rules.specs.Rules.{IsInstruction, Knows, at_first, Rules}
@@ -32,9 +29,9 @@ use Rattle.rules.proofs.Exact.{admits_exactly, told}
 
 -- a completed instruction tells 0 or 1
 completed_small : (e : End) → IsCompleted e → number_of (answer_of e) ≤ 1
-completed_small Completed h = omega arith
-completed_small Stopped h = omega arith
-completed_small (Faulted f) h = absurd h
+completed_small (Ok A.Running) h = omega arith
+completed_small (Ok A.Stopped) h = omega arith
+completed_small (Err f) h = absurd h
 
 module _ (P : Processor) (sound : Sound P) (code : List ℕ) (small : length code ≤ P.size) (R : Rules P code) where
   -- what is carried from step to step
@@ -64,9 +61,9 @@ module _ (P : Processor) (sound : Sound P) (code : List ℕ) (small : length cod
   -- the same step of a state
   same_step : (m : Machine) → Holds m → (e : End) → (advance_of P m).end ≡ e → IsCompleted e → (k : ℕ) → after_steps P (suc k) m.memory (state_of A.Running m) ≡ after_steps P k (advance_of P m).machine.memory (state_of (activity_of e) (advance_of P m).machine)
   unfolding after_steps run_of runs_of
-  same_step m h Completed e c k = rw (eq-eqb (length m.memory.ram) P.size h.typed.memory_typed.whole, machine_state A.Running m h.typed.core_typed, e)
-  same_step m h Stopped e c k = rw (eq-eqb (length m.memory.ram) P.size h.typed.memory_typed.whole, machine_state A.Running m h.typed.core_typed, e)
-  same_step m h (Faulted f) e c k = absurd c
+  same_step m h (Ok A.Running) e c k = rw (eq-eqb (length m.memory.ram) P.size h.typed.memory_typed.whole, machine_state A.Running m h.typed.core_typed, e)
+  same_step m h (Ok A.Stopped) e c k = rw (eq-eqb (length m.memory.ram) P.size h.typed.memory_typed.whole, machine_state A.Running m h.typed.core_typed, e)
+  same_step m h (Err f) e c k = absurd c
 
   -- what is so of r, a run from m with n steps counted already
   record SafeRun (n : ℕ) (m : Machine) (r : Runs) : Type 0 where
@@ -90,22 +87,22 @@ module _ (P : Processor) (sound : Sound P) (code : List ℕ) (small : length cod
     later b keeps (suc k) l = subst (Kept P code) (sym (same_step m h e is c k)) (keeps k (omega arith))
 
   following : (n : ℕ) (m : Machine) → Holds m → (e : End) → (advance_of P m).end ≡ e → IsCompleted e → Holds (advance_of P m).machine → (rest : Runs) → SafeRun (n + 1) (advance_of P m).machine rest → SafeRun n m (followed_by e n (advance_of P m).machine rest)
-  following n m h Completed is c after rest l =
+  following n m h (Ok A.Running) is c after rest l =
       record {
         more = suc l.more;
         counted = l.counted ∙ omega arith;
         completes = l.completes;
-        keeps = later m h Completed is tt l.more l.keeps;
-        ends = same_step m h Completed is tt l.more ∙ l.ends;
+        keeps = later m h (Ok A.Running) is tt l.more l.keeps;
+        ends = same_step m h (Ok A.Running) is tt l.more ∙ l.ends;
         holds_then = l.holds_then;
       }
-  following n m h Stopped is c after rest l =
-      record { more = 1; counted = refl; completes = tt; keeps = later m h Stopped is tt 0 here; ends = same_step m h Stopped is tt 0 ∙ unfold after_steps in refl; holds_then = after }
+  following n m h (Ok A.Stopped) is c after rest l =
+      record { more = 1; counted = refl; completes = tt; keeps = later m h (Ok A.Stopped) is tt 0 here; ends = same_step m h (Ok A.Stopped) is tt 0 ∙ unfold after_steps in refl; holds_then = after }
     where
       here : (k : ℕ) → k ≤ 0 → Kept P code (after_steps P k (advance_of P m).machine.memory (state_of A.Stopped (advance_of P m).machine))
       here zero i = unfold after_steps in kept A.Stopped (advance_of P m).machine after
       here (suc k) i = absurd (omega arith)
-  following n m h (Faulted f) is c after rest l = absurd c
+  following n m h (Err f) is c after rest l = absurd c
 
   safe : (b n : ℕ) (m : Machine) → Holds m → SafeRun n m (runs_of P b n m)
   unfolding runs_of after_steps
@@ -121,8 +118,8 @@ module _ (P : Processor) (sound : Sound P) (code : List ℕ) (small : length cod
         inv =
             record {
               same_code = same;
-              previous = Unbuilt;
-              is_instruction = subst (λ a. IsInstruction P code a Unbuilt) (sym b.at_first) (record { read = first; inside = omega arith });
+              previous = None;
+              is_instruction = subst (λ a. IsInstruction P code a None) (sym b.at_first) (record { read = first; inside = omega arith });
               known = unknown;
               knows = subst (λ a. Knows P code a unknown) (sym b.at_first) at_first;
               fits = wide _ t.active_bank.registers t.active_bank.words;
@@ -171,7 +168,7 @@ module _ (P : Processor) (sound : Sound P) (code : List ℕ) (small : length cod
   safe_runs (b ∷ budgets) memory s h budget allowed = safe_runs budgets _ _ (holds_after memory s h b) budget allowed
 
 -- every run of an admitted program, after any others
-display : (P : Processor) → Sound P → (admitted : List ℕ) (C : ℕ) → check_of P admitted C ≡ Admitted → (memory : Memory) (s : State)
+display : (P : Processor) → Sound P → (admitted : List ℕ) (C : ℕ) → check_of P admitted C ≡ Ok tt → (memory : Memory) (s : State)
     → Loaded P admitted C memory s → (budgets : List ℕ) (budget : ℕ) → budget ≤ budget_limit
     → Safe P (take C admitted) (after_runs P budgets memory s).memory (after_runs P budgets memory s).state budget
 display P sound admitted C e memory s l budgets =

@@ -1,7 +1,7 @@
 -- Demand 3 for the graphics processor, and that it is not vacuous: the check admits four programs, and a run of 01's card needs no
 -- assumption.
 -- Assumes nothing.
-use Rattle.std.proofs.Common.{◌≡◌, ℕ, zero, suc, ◌^◌, ◌<◌, ◌≤◌, Bool, true, ◌&&◌, ltb, List, [], ◌∷◌, ◌++◌, get_or, take, replicate, refl, arith, ltb-true}
+use Rattle.std.proofs.Common.{◌≡◌, ℕ, zero, suc, ◌^◌, ◌<◌, ◌≤◌, Bool, true, ◌&&◌, ltb, List, [], ◌∷◌, ◌++◌, get_or, take, replicate, refl, arith, ltb-true, Ok, Err}
 use Rattle.isa.specs.Words.{instruction_at, decoded_at}
 use Rattle.processor.specs.Processor.{gpu}
 use Rattle.processor.proofs.Instances.{gpu_sound}
@@ -10,7 +10,7 @@ use Rattle.gpu_core.specs.Types.{IsBank, IsMemory}
 use Rattle.machine.specs.declared.State.{State}
 use Rattle.machine.specs.State.{start_state, IsState}
 use Rattle.machine.specs.Run.{budget_limit}
-use Rattle.verdicts.specs.declared.Verdict.TheVariants.{Admitted, Broken}
+use Rattle.verdicts.specs.declared.Refusal.TheVariants.{Broken}
 use Rattle.verdicts.specs.declared.Rule.TheVariants.{Ending}
 use Rattle.items.specs.Items.{item_of}
 use Rattle.rules.specs.Reading.{item_at}
@@ -49,24 +49,24 @@ pub indexing : List ℕ
 indexing = (0x98 ∷ 0x0E ∷ 0x31 ∷ 0x00 ∷ 0x00 ∷ 0xF0 ∷ 0x8D ∷ 0x03 ∷ 0xC4 ∷ 0x41 ∷ 0xAC ∷ 0x42 ∷ 0xF0 ∷ 0x61 ∷ 0xE8 ∷ 0x62 ∷ 0xD7 ∷ 0xE0 ∷ 0xE4 ∷ 0x00 ∷ []) ++ replicate 4076 0
 
 -- what the check answers, computed
-verdicts : (check_of gpu card 16 ≡ Admitted) × (check_of gpu card 12 ≡ Broken Ending 0xF0300A) × (check_of gpu jumping 12 ≡ Admitted) × (check_of gpu switching 28 ≡ Admitted) × (check_of gpu indexing 20 ≡ Admitted)
+verdicts : (check_of gpu card 16 ≡ Ok tt) × (check_of gpu card 12 ≡ Err (Broken Ending 0xF0300A)) × (check_of gpu jumping 12 ≡ Ok tt) × (check_of gpu switching 28 ≡ Ok tt) × (check_of gpu indexing 20 ≡ Ok tt)
 unfolding card jumping switching indexing check_of rules_of broken_in first_bad scan item_at item_of transfer_of is_start is_target learn ok1 ok2 ok3 ok4 ok5 ok6 decoded_at instruction_at
 verdicts = (refl, refl, refl, refl, refl)
 
-pub card_admitted : check_of gpu card 16 ≡ Admitted
+pub card_admitted : check_of gpu card 16 ≡ Ok tt
 card_admitted = verdicts.0
 
 -- cut before its JR: the last instruction, a NOP, follows no jump with condition 0
-pub card_cut : check_of gpu card 12 ≡ Broken Ending 0xF0300A
+pub card_cut : check_of gpu card 12 ≡ Err (Broken Ending 0xF0300A)
 card_cut = verdicts.1
 
-pub jumping_admitted : check_of gpu jumping 12 ≡ Admitted
+pub jumping_admitted : check_of gpu jumping 12 ≡ Ok tt
 jumping_admitted = verdicts.2
 
-pub switching_admitted : check_of gpu switching 28 ≡ Admitted
+pub switching_admitted : check_of gpu switching 28 ≡ Ok tt
 switching_admitted = verdicts.3
 
-pub indexing_admitted : check_of gpu indexing 20 ≡ Admitted
+pub indexing_admitted : check_of gpu indexing 20 ≡ Ok tt
 indexing_admitted = verdicts.4
 
 -- every run of a program from a state that begins is safe

@@ -1,11 +1,9 @@
 -- Fetching sees the code: an instruction that ends in the code is fetched from RAM as the code has it.
 -- Assumes nothing.
-use Rattle.std.proofs.Common.{◌≡◌, ℕ, ◌+◌, ◌-◌, ◌*◌, ◌%◌, ◌^◌, ◌≤◌, List, length, take, refl, ◌∙◌, ap₂, arith, get_or-take, le-ltb, lt-ltb, ne_eqb}
+use Rattle.std.proofs.Common.{◌≡◌, ℕ, ◌+◌, ◌-◌, ◌*◌, ◌%◌, ◌^◌, ◌≤◌, List, length, take, refl, Ok, ◌∙◌, ap₂, arith, get_or-take, le-ltb, lt-ltb, ne_eqb}
 use lib.Seq.{take-set-le}
 use Rattle.processor.specs.Processor.{Processor, Sound}
 use Rattle.memory.specs.Memory.{word_at, put_long, fetch_of, immediate_of}
-use Rattle.memory.specs.declared.Fetched.TheVariants as F
-use Rattle.memory.specs.declared.Received.TheVariants as I
 use Rattle.items.specs.declared.Shape.{Shape}
 use Rattle.items.specs.declared.Shape.TheVariants.{Other, Movei, MovePc, Jr, Jump, Load, Store}
 use Rattle.items.specs.Items.{bytes_of}
@@ -33,12 +31,12 @@ word_same n ram i h =
     ap₂ (λ (x y : ℕ). x * 256 + y) (get_or-take n ram i 0 (omega arith)) (get_or-take n ram (i + 1) 0 (omega arith))
 
 module _ (P : Processor) (ram : List ℕ) (whole : length ram ≡ P.size) where
-  pub fetched : (a : ℕ) → a % 2 ≡ 0 → P.base ≤ a → a + 2 ≤ P.base + P.size → fetch_of P ram a ≡ F.Word (word_at ram (a - P.base))
+  pub fetched : (a : ℕ) → a % 2 ≡ 0 → P.base ≤ a → a + 2 ≤ P.base + P.size → fetch_of P ram a ≡ Ok (word_at ram (a - P.base))
   fetched a even low high =
       rw (le-ltb a P.base low, ne_eqb (a % 2) 1 (λ e. omega arith), lt-ltb (a - P.base + 1) (length ram) (omega arith))
 
   -- the long behind a MOVEI
-  pub fetched_long : Sound P → (a : ℕ) → a % 2 ≡ 0 → P.base ≤ a → a + 6 ≤ P.base + P.size → immediate_of P ram a ≡ I.Long (word_at ram (a - P.base + 4) * 2 ^ 16 + word_at ram (a - P.base + 2))
+  pub fetched_long : Sound P → (a : ℕ) → a % 2 ≡ 0 → P.base ≤ a → a + 6 ≤ P.base + P.size → immediate_of P ram a ≡ Ok (word_at ram (a - P.base + 4) * 2 ^ 16 + word_at ram (a - P.base + 2))
   unfolding immediate_of
   fetched_long sound a even low high =
       let two : (a + 2) % 2 ^ 32 ≡ a + 2 = omega (arith, sound.top) in

@@ -1,21 +1,18 @@
 -- What holds before each step of an admitted program, and how the counter's move keeps it.
 -- Assumes nothing.
-use Rattle.std.proofs.Common.{◌≡◌, ℕ, ◌+◌, ◌%◌, ◌^◌, ◌<◌, ◌≤◌, Bool, true, false, cond, eqb, List, length, get_or, take, sym, refl, ap, ◌∙◌, subst, arith, eqb-true}
+use Rattle.std.proofs.Common.{◌≡◌, ℕ, ◌+◌, ◌%◌, ◌^◌, ◌<◌, ◌≤◌, Bool, true, false, cond, eqb, List, length, get_or, take, sym, refl, ap, ◌∙◌, subst, arith, eqb-true, Option, Some, None}
 use borrow.Author.Tests.{eqb-false}
 use Rattle.class.specs.declared.Class.{Class}
 use Rattle.processor.specs.Processor.{Processor, Sound}
 use Rattle.gpu_core.specs.declared.Core.{Core}
-use Rattle.gpu_core.specs.declared.Pending.{Pending}
-use Rattle.gpu_core.specs.declared.Pending.TheVariants.{None, At}
 use Rattle.gpu_core.specs.Core.{counter_of, moved_of}
 use Rattle.gpu_core.specs.Machine.{Memory, Machine, machine_with}
 use Rattle.ranges.specs.declared.Range.{Range}
 use Rattle.items.specs.declared.Item.{Item}
-use Rattle.items.specs.declared.Item.TheVariants.{Built}
 use Rattle.items.specs.declared.Shape.{Shape}
 use Rattle.items.specs.declared.Shape.TheVariants.{Other, Movei, MovePc, Jr, Jump, Load, Store}
 use Rattle.verdicts.specs.declared.Rule.TheVariants as N
-use Rattle.items.specs.Items.{shape_in, shape_of, bytes_of, always}
+use Rattle.items.specs.Items.{built, shape_in, shape_of, bytes_of, always}
 use Rattle.rules.specs.Reading.{breaks_slot, end_of, item_at, shape_at, after, next}
 use Rattle.ranges.specs.Ranges.{unknown}
 use Rattle.rules.specs.Known.{transfer, transfer_of}
@@ -43,22 +40,22 @@ pub record Fell (p : Shape) (m : Machine) : Type 0 where
 
 module _ (P : Processor) (code : List ℕ) where
   -- how control came to the counter
-  pub data Came (p : Item) (m : Machine) : Type 0 where
+  pub data Came (p : Option Item) (m : Machine) : Type 0 where
     by_target : IsTarget P code m.core.pc → Came p m
     by_fall : Fell (shape_of p) m → Came p m
 
   pub record Inv (m : Machine) : Type 0 where
     pub same_code : take (length code) m.memory.ram ≡ code
-    pub previous : Item
+    pub previous : Option Item
     pub is_instruction : IsInstruction P code m.core.pc previous
     pub known : List Range
     pub knows : Knows P code m.core.pc known
     pub fits : Fits known m.active
     pub came : Came previous m
-    pub slot : (t : ℕ) → m.core.pending ≡ At t → IsTarget P code t × (breaks_slot (shape_at P code m.core.pc) ≡ false)
+    pub slot : (t : ℕ) → m.core.pending ≡ Some t → IsTarget P code t × (breaks_slot (shape_at P code m.core.pc) ≡ false)
 
 -- nothing is pending, or something is
-pending_none : {A : Type 0} {t : ℕ} {p : Pending} → p ≡ None → p ≡ At t → A
+pending_none : {A : Type 0} {t : ℕ} {p : Option ℕ} → p ≡ None → p ≡ Some t → A
 pending_none e h = let z : ◌≡◌ {A = ℕ} 0 1 = cc in absurd (omega arith)
 
 module _ (P : Processor) (code : List ℕ) (R : Rules P code) where
@@ -96,7 +93,7 @@ module _ (P : Processor) (code : List ℕ) (R : Rules P code) where
       }
 
   -- the counter goes on to the instruction after a
-  pub fall : (a : ℕ) (p : Item) (k : List Range) → IsInstruction P code a p → Knows P code a k → after P code a < end_of P code → (m : Machine) → take (length code) m.memory.ram ≡ code → Fits unknown m.active → m.core.pc ≡ after P code a → Fits (transfer_of P (item_at P code a) k) m.active → Fell (shape_at P code a) m → ((t : ℕ) → m.core.pending ≡ At t → IsTarget P code t × (breaks_slot (shape_at P code (after P code a)) ≡ false)) → Inv P code m
+  pub fall : (a : ℕ) (p : Option Item) (k : List Range) → IsInstruction P code a p → Knows P code a k → after P code a < end_of P code → (m : Machine) → take (length code) m.memory.ram ≡ code → Fits unknown m.active → m.core.pc ≡ after P code a → Fits (transfer_of P (item_at P code a) k) m.active → Fell (shape_at P code a) m → ((t : ℕ) → m.core.pending ≡ Some t → IsTarget P code t × (breaks_slot (shape_at P code (after P code a)) ≡ false)) → Inv P code m
   unfolding learn
   fall a p k i q l m same wide e f fell slot =
       record {
@@ -127,12 +124,12 @@ module _ (P : Processor) (code : List ℕ) (R : Rules P code) where
 
   module _ (sound : Sound P) (small : length code ≤ P.size) where
     -- a whole instruction of one word, from a state in which registers, flags or RAM have changed already
-    pub arrive : {m : Machine} (inv : Inv P code m) (c : Class) (n : ℕ) → item_at P code m.core.pc ≡ Built c n → bytes_of (shape_in c n) ≡ 2 → always (shape_in c n) ≡ false → (k : Core) (a o : List ℕ) (memory : Memory) → take (length code) memory.ram ≡ code → k.pc ≡ m.core.pc → k.pending ≡ m.core.pending → HoldsValue (shape_in c n) a → Fits (transfer P c n inv.known) a → Fits unknown a → Inv P code (machine_with a o (moved_of k None) memory)
+    pub arrive : {m : Machine} (inv : Inv P code m) (c : Class) (n : ℕ) → item_at P code m.core.pc ≡ built c n → bytes_of (shape_in c n) ≡ 2 → always (shape_in c n) ≡ false → (k : Core) (a o : List ℕ) (memory : Memory) → take (length code) memory.ram ≡ code → k.pc ≡ m.core.pc → k.pending ≡ m.core.pending → HoldsValue (shape_in c n) a → Fits (transfer P c n inv.known) a → Fits unknown a → Inv P code (machine_with a o (moved_of k None) memory)
     unfolding transfer_of
     arrive {m} inv c n item two never k a o memory same ep eq left f wide = go m.core.pending refl
       where
-        go : (p : Pending) → m.core.pending ≡ p → Inv P code (machine_with a o (moved_of k None) memory)
-        go (At t) e =
+        go : (p : Option ℕ) → m.core.pending ≡ p → Inv P code (machine_with a o (moved_of k None) memory)
+        go (Some t) e =
             land t (machine_with a o (moved_of k None) memory) same wide (inv.slot t e).0 (ap (λ p. counter_of p k.pc) (eq ∙ e)) refl
         go None e =
             let l = not_last inv e in

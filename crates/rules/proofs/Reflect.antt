@@ -1,6 +1,6 @@
 -- The computed tests of the check and the six rules as statements say the same of an instruction, both ways.
 -- Assumes nothing.
-use Rattle.std.proofs.Common.{◌≡◌, ℕ, ◌+◌, ◌<◌, Bool, true, false, cond, not, ◌&&◌, ◌||◌, eqb, ltb, leb, List, sym, refl, ap, ◌∙◌, subst, ltb-true, lt-ltb, eq-eqb, eqb-true, le-leb, leb-true}
+use Rattle.std.proofs.Common.{◌≡◌, ℕ, ◌+◌, ◌<◌, Bool, true, false, cond, not, ◌&&◌, ◌||◌, eqb, ltb, leb, List, sym, refl, ap, ◌∙◌, subst, ltb-true, lt-ltb, eq-eqb, eqb-true, le-leb, leb-true, Option, Some, None}
 use borrow.Author.Tests.{not-false}
 use Rattle.field.specs.Fields.{signed_field_of}
 use Rattle.branch.specs.Jump.{jr_target_of}
@@ -8,7 +8,6 @@ use Rattle.processor.specs.Processor.{Processor}
 use Rattle.places.specs.Places.{is_register}
 use Rattle.ranges.specs.declared.Range.{Range}
 use Rattle.items.specs.declared.Item.{Item}
-use Rattle.items.specs.declared.Item.TheVariants.{Unbuilt, Built}
 use Rattle.items.specs.declared.Shape.{Shape}
 use Rattle.items.specs.declared.Shape.TheVariants.{Other, Movei, MovePc, Jr, Jump, Load, Store}
 use Rattle.items.specs.Items.{shape_of, is_jump, always, is_built}
@@ -23,9 +22,9 @@ use Rattle.rules.proofs.Scan.{finds, is_found}
 not_f : {a : Bool} → a ≡ true → not a ≡ false
 not_f {a} e = rw e
 
-built_is : (i : Item) → (i ≡ Unbuilt → ⊥) → is_built i ≡ true
-built_is Unbuilt h = absurd (h refl)
-built_is (Built c v) h = refl
+built_is : (i : Option Item) → (i ≡ None → ⊥) → is_built i ≡ true
+built_is None h = absurd (h refl)
+built_is (Some i) h = refl
 
 holds_of : (p : Shape) (r : ℕ) (f : ℕ → Bool) → holds p r f ≡ true → (v : ℕ) × (p ≡ Movei r v) × (f v ≡ true)
 holds_of Other r f e = no_way e
@@ -86,7 +85,7 @@ module _ (P : Processor) (code : List ℕ) where
   pub start_of : (t : ℕ) → is_start P code t ≡ true → IsStart P code t
   unfolding is_start
   start_of t e =
-      let f = finds P code Item Unbuilt (before P code) (λ a p. not (eqb a t)) e in
+      let f = finds P code (Option Item) None (before P code) (λ a p. not (eqb a t)) e in
       let same : f.at ≡ t = eqb-true f.at t (not-false (eqb f.at t) f.fails) in
       subst (IsStart P code) same
       (record { previous = f.carried; is_instruction = record { read = f.read; inside = f.inside } })
@@ -94,7 +93,7 @@ module _ (P : Processor) (code : List ℕ) where
   pub start_is : (t : ℕ) → IsStart P code t → is_start P code t ≡ true
   unfolding is_start
   start_is t s =
-      is_found P code Item Unbuilt (before P code) (λ a p. not (eqb a t))
+      is_found P code (Option Item) None (before P code) (λ a p. not (eqb a t))
       (record {
         at = t;
         carried = s.previous;
@@ -104,7 +103,7 @@ module _ (P : Processor) (code : List ℕ) where
       })
 
   -- a jump and its target
-  leads_by : (a : ℕ) (p : Item) (t : ℕ) (s : Shape) → shape_at P code a ≡ s → leads a (shape_of p) s t ≡ true → Leads P code a p t
+  leads_by : (a : ℕ) (p : Option Item) (t : ℕ) (s : Shape) → shape_at P code a ≡ s → leads a (shape_of p) s t ≡ true → Leads P code a p t
   leads_by a p t Other q e = no_way e
   leads_by a p t (Movei d v) q e = no_way e
   leads_by a p t MovePc q e = no_way e
@@ -115,10 +114,10 @@ module _ (P : Processor) (code : List ℕ) where
   leads_by a p t (Load m) q e = no_way e
   leads_by a p t (Store m) q e = no_way e
 
-  pub leads_of : (a : ℕ) (p : Item) (t : ℕ) → leads a (shape_of p) (shape_at P code a) t ≡ true → Leads P code a p t
+  pub leads_of : (a : ℕ) (p : Option Item) (t : ℕ) → leads a (shape_of p) (shape_at P code a) t ≡ true → Leads P code a p t
   leads_of a p t e = leads_by a p t (shape_at P code a) refl e
 
-  pub leads_is : (a : ℕ) (p : Item) (t : ℕ) → Leads P code a p t → leads a (shape_of p) (shape_at P code a) t ≡ true
+  pub leads_is : (a : ℕ) (p : Option Item) (t : ℕ) → Leads P code a p t → leads a (shape_of p) (shape_at P code a) t ≡ true
   leads_is a p t (by_jr n c q e) =
       subst (λ s. leads a (shape_of p) s t ≡ true) (sym q) (eq-eqb (jr_target_of a (signed_field_of n)) t e)
   leads_is a p t (by_jump r c q e) =
@@ -127,7 +126,7 @@ module _ (P : Processor) (code : List ℕ) where
   pub target_of_lem : (t : ℕ) → is_target P code t ≡ true → IsTarget P code t
   unfolding is_target
   target_of_lem t e =
-      let f = finds P code Item Unbuilt (before P code) (λ a p. not (leads a (shape_of p) (shape_at P code a) t)) e in
+      let f = finds P code (Option Item) None (before P code) (λ a p. not (leads a (shape_of p) (shape_at P code a) t)) e in
       record {
         from = f.at;
         previous = f.carried;
@@ -140,7 +139,7 @@ module _ (P : Processor) (code : List ℕ) where
   pub target_is : (t : ℕ) → IsTarget P code t → is_target P code t ≡ true
   unfolding is_target
   target_is t s =
-      is_found P code Item Unbuilt (before P code) (λ a p. not (leads a (shape_of p) (shape_at P code a) t))
+      is_found P code (Option Item) None (before P code) (λ a p. not (leads a (shape_of p) (shape_at P code a) t))
       (record {
         at = s.from;
         carried = s.previous;
@@ -176,7 +175,7 @@ module _ (P : Processor) (code : List ℕ) where
       subst (λ t. Reads P code (List Range) unknown (learn P code) (after P code a) (cond t unknown (transfer_of P (item_at P code a) k))) (not_of (is_target P code (after P code a)) (not_target (after P code a) n)) (next (knows_is r) l)
 
   -- rule 1
-  pub of1 : (a : ℕ) (p : Item) → ok1 P code a p ≡ true → Rule1 P code a p
+  pub of1 : (a : ℕ) (p : Option Item) → ok1 P code a p ≡ true → Rule1 P code a p
   unfolding ok1
   of1 a p h =
       let l : Bool = leb (after P code a) (end_of P code) in (
@@ -184,12 +183,12 @@ module _ (P : Processor) (code : List ℕ) where
         leb-true (after P code a) (end_of P code) (and_r (is_built (item_at P code a)) l h),
       )
 
-  pub is1 : (a : ℕ) (p : Item) → Rule1 P code a p → ok1 P code a p ≡ true
+  pub is1 : (a : ℕ) (p : Option Item) → Rule1 P code a p → ok1 P code a p ≡ true
   unfolding ok1
   is1 a p h = and_i (built_is (item_at P code a) h.0) (le-leb (after P code a) (end_of P code) h.1)
 
   -- rule 2
-  pub of2 : (a : ℕ) (p : Item) → ok2 P code a p ≡ true → Rule2 P code a p
+  pub of2 : (a : ℕ) (p : Option Item) → ok2 P code a p ≡ true → Rule2 P code a p
   unfolding ok2
   of2 a p h n c e = start_of (jr_target_of a (signed_field_of n)) (subst (λ s. jr_ok P code a s ≡ true) e h)
 
@@ -202,12 +201,12 @@ module _ (P : Processor) (code : List ℕ) where
   jr_is a (Load m) h = refl
   jr_is a (Store m) h = refl
 
-  pub is2 : (a : ℕ) (p : Item) → Rule2 P code a p → ok2 P code a p ≡ true
+  pub is2 : (a : ℕ) (p : Option Item) → Rule2 P code a p → ok2 P code a p ≡ true
   unfolding ok2
   is2 a p h = jr_is a (shape_at P code a) h
 
   -- rule 3
-  pub of3 : (a : ℕ) (p : Item) → ok3 P code a p ≡ true → Rule3 P code a p
+  pub of3 : (a : ℕ) (p : Option Item) → ok3 P code a p ≡ true → Rule3 P code a p
   unfolding ok3
   of3 a p h r c e =
       let held : Bool = holds (shape_of p) r (is_start P code) in
@@ -215,7 +214,7 @@ module _ (P : Processor) (code : List ℕ) where
       let q = holds_of (shape_of p) r (is_start P code) (and_l held _ k) in
       ((q.0, q.1, start_of q.0 q.2), no_target _ (and_r held _ k))
 
-  jump_is : (a : ℕ) (p : Item) (s : Shape) → shape_at P code a ≡ s → Rule3 P code a p → jump_ok P code a (shape_of p) s ≡ true
+  jump_is : (a : ℕ) (p : Option Item) (s : Shape) → shape_at P code a ≡ s → Rule3 P code a p → jump_ok P code a (shape_of p) s ≡ true
   jump_is a p Other e h = refl
   jump_is a p (Movei d v) e h = refl
   jump_is a p MovePc e h = refl
@@ -226,12 +225,12 @@ module _ (P : Processor) (code : List ℕ) where
   jump_is a p (Load m) e h = refl
   jump_is a p (Store m) e h = refl
 
-  pub is3 : (a : ℕ) (p : Item) → Rule3 P code a p → ok3 P code a p ≡ true
+  pub is3 : (a : ℕ) (p : Option Item) → Rule3 P code a p → ok3 P code a p ≡ true
   unfolding ok3
   is3 a p h = jump_is a p (shape_at P code a) refl h
 
   -- rule 4
-  pub of4 : (a : ℕ) (p : Item) → ok4 P code a p ≡ true → Rule4 P code a p
+  pub of4 : (a : ℕ) (p : Option Item) → ok4 P code a p ≡ true → Rule4 P code a p
   unfolding ok4
   of4 a p h j =
       let b : Bool = breaks_slot (shape_at P code (after P code a)) in
@@ -242,7 +241,7 @@ module _ (P : Processor) (code : List ℕ) where
       (λ n. n) in
       (ltb-true (after P code a) (end_of P code) (and_l l (not b) q), not_of b (and_r l (not b) q))
 
-  pub is4 : (a : ℕ) (p : Item) → Rule4 P code a p → ok4 P code a p ≡ true
+  pub is4 : (a : ℕ) (p : Option Item) → Rule4 P code a p → ok4 P code a p ≡ true
   unfolding ok4
   is4 a p h =
       by (is_jump (shape_at P code a))
@@ -251,7 +250,7 @@ module _ (P : Processor) (code : List ℕ) where
       (λ j. or_l (ltb (after P code a) (end_of P code) && not (breaks_slot (shape_at P code (after P code a)))) (not_i j))
 
   -- rule 5
-  pub of5 : (a : ℕ) (p : Item) → ok5 P code a p ≡ true → Rule5 P code a p
+  pub of5 : (a : ℕ) (p : Option Item) → ok5 P code a p ≡ true → Rule5 P code a p
   unfolding ok5
   of5 a p h e =
       let last : Bool = eqb (after P code a) (end_of P code) in
@@ -259,7 +258,7 @@ module _ (P : Processor) (code : List ℕ) where
       (λ n. no_way (sym (not_of last n) ∙ eq-eqb (after P code a) (end_of P code) e))
       (λ q. (and_l (always (shape_of p)) _ q, no_target _ (and_r (always (shape_of p)) _ q)))
 
-  pub is5 : (a : ℕ) (p : Item) → Rule5 P code a p → ok5 P code a p ≡ true
+  pub is5 : (a : ℕ) (p : Option Item) → Rule5 P code a p → ok5 P code a p ≡ true
   unfolding ok5
   is5 a p h =
       by (eqb (after P code a) (end_of P code))

@@ -1,14 +1,12 @@
 -- A scan of the code is clear exactly if its test passes at every instruction, and else finds the first at which it fails.
 -- Assumes nothing.
-use Rattle.std.proofs.Common.{◌≡◌, ℕ, zero, suc, ◌+◌, ◌<◌, ◌≤◌, Bool, true, false, ltb, List, length, sym, refl, ap, ◌∙◌, arith, ltb-false, ltb-true, le-ltb, lt-ltb}
+use Rattle.std.proofs.Common.{◌≡◌, ℕ, zero, suc, ◌+◌, ◌<◌, ◌≤◌, Bool, true, false, ltb, List, length, sym, refl, ap, ◌∙◌, arith, ltb-false, ltb-true, le-ltb, lt-ltb, Option, Some, None, is_some}
 use Rattle.processor.specs.Processor.{Processor}
 use Rattle.items.specs.declared.Shape.{Shape}
 use Rattle.items.specs.declared.Shape.TheVariants.{Other, Movei, MovePc, Jr, Jump, Load, Store}
-use Rattle.verdicts.specs.declared.Hit.{Hit}
-use Rattle.verdicts.specs.declared.Hit.TheVariants as H
 use Rattle.items.specs.Items.{bytes_of}
 use Rattle.rules.specs.Reading.{end_of, shape_at, after, Reads, first, next}
-use Rattle.rules.specs.Scan.{found, scan, first_bad}
+use Rattle.rules.specs.Scan.{scan, first_bad}
 use Rattle.values.proofs.Booleans.{by, no_way}
 
 pub bytes_least : (s : Shape) → 2 ≤ bytes_of s
@@ -31,22 +29,19 @@ reads_too y₀ flow' (next {a} r h) =
     let q = reads_too y₀ flow' r in
     (flow' a q.0, next q.1 h)
 
-hit_inj : {b c : ℕ} → H.At b ≡ H.At c → b ≡ c
+hit_inj : {b c : ℕ} → Some b ≡ Some c → b ≡ c
 hit_inj e = cc
 
-clear_hit : {A : Type 0} {f : ℕ} → H.Clear ≡ H.At f → A
-clear_hit e = no_way (ap found e)
-
-not_clear : {A : Type 0} → found H.Clear ≡ true → A
-not_clear e = no_way e
+clear_hit : {A : Type 0} {f : ℕ} → None ≡ Some f → A
+clear_hit e = no_way (ap is_some e)
 
 module _ (P : Processor) (code : List ℕ) (X : Type 0) (x₀ : X) (flow : ℕ → X → X) (test : ℕ → X → Bool) where
   -- the ways a scan goes on
-  pub scan_zero : (a : ℕ) (x : X) → scan P code X x₀ flow test 0 a x ≡ H.Clear
+  pub scan_zero : (a : ℕ) (x : X) → scan P code X x₀ flow test 0 a x ≡ None
   unfolding scan
   scan_zero a x = refl
 
-  pub scan_past : (n a : ℕ) (x : X) → end_of P code ≤ a → scan P code X x₀ flow test n a x ≡ H.Clear
+  pub scan_past : (n a : ℕ) (x : X) → end_of P code ≤ a → scan P code X x₀ flow test n a x ≡ None
   unfolding scan
   scan_past zero a x h = refl
   scan_past (suc n) a x h = rw (le-ltb a (end_of P code) h)
@@ -56,18 +51,18 @@ module _ (P : Processor) (code : List ℕ) (X : Type 0) (x₀ : X) (flow : ℕ �
   unfolding scan
   scan_on n a x h e = rw (lt-ltb a (end_of P code) h, e)
 
-  pub scan_hit : (n a : ℕ) (x : X) → a < end_of P code → test a x ≡ false → scan P code X x₀ flow test (suc n) a x ≡ H.At a
+  pub scan_hit : (n a : ℕ) (x : X) → a < end_of P code → test a x ≡ false → scan P code X x₀ flow test (suc n) a x ≡ Some a
   unfolding scan
   scan_hit n a x h e = rw (lt-ltb a (end_of P code) h, e)
 
-  clear_at : {a : ℕ} {x : X} → first_bad P code X x₀ flow test ≡ H.Clear → Reads P code X x₀ flow a x
-      → (n : ℕ) × (end_of P code ≤ a + n) × (scan P code X x₀ flow test n a x ≡ H.Clear)
+  clear_at : {a : ℕ} {x : X} → first_bad P code X x₀ flow test ≡ None → Reads P code X x₀ flow a x
+      → (n : ℕ) × (end_of P code ≤ a + n) × (scan P code X x₀ flow test n a x ≡ None)
   unfolding first_bad
   clear_at e first = (length code, omega arith, e)
   clear_at e (next {a} {x} r h) = go (clear_at e r)
     where
-      go : (n : ℕ) × (end_of P code ≤ a + n) × (scan P code X x₀ flow test n a x ≡ H.Clear)
-          → (n : ℕ) × (end_of P code ≤ after P code a + n) × (scan P code X x₀ flow test n (after P code a) (flow a x) ≡ H.Clear)
+      go : (n : ℕ) × (end_of P code ≤ a + n) × (scan P code X x₀ flow test n a x ≡ None)
+          → (n : ℕ) × (end_of P code ≤ after P code a + n) × (scan P code X x₀ flow test n (after P code a) (flow a x) ≡ None)
       go (zero, l, s) = absurd (omega arith)
       go (suc n, l, s) =
           by (test a x)
@@ -75,10 +70,10 @@ module _ (P : Processor) (code : List ℕ) (X : Type 0) (x₀ : X) (flow : ℕ �
           (λ t. clear_hit (sym s ∙ scan_hit n a x h t))
 
   -- a clear scan: the test passes at each instruction
-  pub passes : first_bad P code X x₀ flow test ≡ H.Clear → {a : ℕ} {x : X} → Reads P code X x₀ flow a x → a < end_of P code → test a x ≡ true
+  pub passes : first_bad P code X x₀ flow test ≡ None → {a : ℕ} {x : X} → Reads P code X x₀ flow a x → a < end_of P code → test a x ≡ true
   passes e {a} {x} r h = go (clear_at e r)
     where
-      go : (n : ℕ) × (end_of P code ≤ a + n) × (scan P code X x₀ flow test n a x ≡ H.Clear) → test a x ≡ true
+      go : (n : ℕ) × (end_of P code ≤ a + n) × (scan P code X x₀ flow test n a x ≡ None) → test a x ≡ true
       go (zero, l, s) = absurd (omega arith)
       go (suc n, l, s) =
           by (test a x) (λ t. t)
@@ -92,42 +87,42 @@ module _ (P : Processor) (code : List ℕ) (X : Type 0) (x₀ : X) (flow : ℕ �
     pub inside : at < end_of P code
     pub fails : test at carried ≡ false
 
-  pub is_found : Fails → found (first_bad P code X x₀ flow test) ≡ true
+  pub is_found : Fails → is_some (first_bad P code X x₀ flow test) ≡ true
   is_found f = go (first_bad P code X x₀ flow test) refl
     where
-      go : (b : Hit) → first_bad P code X x₀ flow test ≡ b → found b ≡ true
-      go (H.At a) e = refl
-      go H.Clear e = let z : ◌≡◌ {A = Bool} true false = sym (passes e f.read f.inside) ∙ f.fails in no_way (sym z)
+      go : (b : Option ℕ) → first_bad P code X x₀ flow test ≡ b → is_some b ≡ true
+      go (Some a) e = refl
+      go None e = let z : ◌≡◌ {A = Bool} true false = sym (passes e f.read f.inside) ∙ f.fails in no_way (sym z)
 
   -- the scan from any instruction up to the one that it finds finds that one
-  hit_at : {f : ℕ} → first_bad P code X x₀ flow test ≡ H.At f → {a : ℕ} {x : X} → Reads P code X x₀ flow a x → a ≤ f → a < end_of P code
-      → (n : ℕ) × (scan P code X x₀ flow test (suc n) a x ≡ H.At f)
+  hit_at : {f : ℕ} → first_bad P code X x₀ flow test ≡ Some f → {a : ℕ} {x : X} → Reads P code X x₀ flow a x → a ≤ f → a < end_of P code
+      → (n : ℕ) × (scan P code X x₀ flow test (suc n) a x ≡ Some f)
   unfolding first_bad
   hit_at {f} e first l h = go (length code) refl
     where
-      go : (n : ℕ) → length code ≡ n → (k : ℕ) × (scan P code X x₀ flow test (suc k) P.base x₀ ≡ H.At f)
+      go : (n : ℕ) → length code ≡ n → (k : ℕ) × (scan P code X x₀ flow test (suc k) P.base x₀ ≡ Some f)
       go zero q = absurd (omega arith)
       go (suc n) q = (n, rw (← q) e)
   hit_at {f} e (next {a} {x} r i) l h = go (hit_at e r (omega (arith, after_later P code a)) i)
     where
-      go : (n : ℕ) × (scan P code X x₀ flow test (suc n) a x ≡ H.At f) → (n : ℕ) × (scan P code X x₀ flow test (suc n) (after P code a) (flow a x) ≡ H.At f)
+      go : (n : ℕ) × (scan P code X x₀ flow test (suc n) a x ≡ Some f) → (n : ℕ) × (scan P code X x₀ flow test (suc n) (after P code a) (flow a x) ≡ Some f)
       go (n, s) =
           by (test a x)
           (λ t. more n (sym (scan_on n a x i t) ∙ s))
           (λ t. absurd (omega (arith, hit_inj (sym (scan_hit n a x i t) ∙ s), after_later P code a)))
         where
-          more : (n : ℕ) → scan P code X x₀ flow test n (after P code a) (flow a x) ≡ H.At f
-              → (n : ℕ) × (scan P code X x₀ flow test (suc n) (after P code a) (flow a x) ≡ H.At f)
+          more : (n : ℕ) → scan P code X x₀ flow test n (after P code a) (flow a x) ≡ Some f
+              → (n : ℕ) × (scan P code X x₀ flow test (suc n) (after P code a) (flow a x) ≡ Some f)
           more zero q = clear_hit (sym (scan_zero (after P code a) (flow a x)) ∙ q)
           more (suc n) q = (n, q)
 
   -- what a scan finds is the first: the test passes at each instruction before it, and fails at it
-  pub passes_before : {f : ℕ} → first_bad P code X x₀ flow test ≡ H.At f → {a : ℕ} {x : X} → Reads P code X x₀ flow a x → a < end_of P code → a < f → test a x ≡ true
+  pub passes_before : {f : ℕ} → first_bad P code X x₀ flow test ≡ Some f → {a : ℕ} {x : X} → Reads P code X x₀ flow a x → a < end_of P code → a < f → test a x ≡ true
   passes_before e {a} {x} r h l =
       let q = hit_at e r (omega arith) h in
       by (test a x) (λ t. t) (λ t. absurd (omega (arith, hit_inj (sym (scan_hit q.0 a x h t) ∙ q.1))))
 
-  hit_from : {f : ℕ} (n : ℕ) {a : ℕ} {x : X} → Reads P code X x₀ flow a x → scan P code X x₀ flow test n a x ≡ H.At f → (w : Fails) × (w.at ≡ f)
+  hit_from : {f : ℕ} (n : ℕ) {a : ℕ} {x : X} → Reads P code X x₀ flow a x → scan P code X x₀ flow test n a x ≡ Some f → (w : Fails) × (w.at ≡ f)
   hit_from {f} zero {a} {x} r e = clear_hit (sym (scan_zero a x) ∙ e)
   hit_from {f} (suc n) {a} {x} r e =
       by (ltb a (end_of P code))
@@ -138,13 +133,13 @@ module _ (P : Processor) (code : List ℕ) (X : Type 0) (x₀ : X) (flow : ℕ �
       (λ u. (record { at = a; carried = x; read = r; inside = h; fails = u }, hit_inj (sym (scan_hit n a x h u) ∙ e))))
       (λ t. clear_hit (sym (scan_past (suc n) a x (ltb-false a (end_of P code) t)) ∙ e))
 
-  pub fails_there : {f : ℕ} → first_bad P code X x₀ flow test ≡ H.At f → (w : Fails) × (w.at ≡ f)
+  pub fails_there : {f : ℕ} → first_bad P code X x₀ flow test ≡ Some f → (w : Fails) × (w.at ≡ f)
   unfolding first_bad
   fails_there e = hit_from (length code) first e
 
-  pub finds : found (first_bad P code X x₀ flow test) ≡ true → Fails
+  pub finds : is_some (first_bad P code X x₀ flow test) ≡ true → Fails
   finds e = go (first_bad P code X x₀ flow test) refl e
     where
-      go : (b : Hit) → first_bad P code X x₀ flow test ≡ b → found b ≡ true → Fails
-      go H.Clear q e = not_clear e
-      go (H.At f) q e = (fails_there q).0
+      go : (b : Option ℕ) → first_bad P code X x₀ flow test ≡ b → is_some b ≡ true → Fails
+      go None q e = no_way e
+      go (Some f) q e = (fails_there q).0

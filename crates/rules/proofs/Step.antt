@@ -1,6 +1,6 @@
 -- A step of an admitted program completes, and what held before it holds after it.
 -- Assumes nothing.
-use Rattle.std.proofs.Common.{◌≡◌, ℕ, ◌+◌, ◌-◌, ◌*◌, ◌/◌, ◌%◌, ◌^◌, ◌<◌, ◌≤◌, Bool, true, false, cond, eqb, List, length, get_or, take, set, sym, refl, ap, ◌∙◌, subst, ap₂, arith, get_or-set_same, eqb-true}
+use Rattle.std.proofs.Common.{◌≡◌, ℕ, ◌+◌, ◌-◌, ◌*◌, ◌/◌, ◌%◌, ◌^◌, ◌<◌, ◌≤◌, Bool, true, false, cond, eqb, List, length, get_or, take, set, sym, refl, ap, ◌∙◌, subst, ap₂, arith, get_or-set_same, eqb-true, Option, Some, None, Result, Ok, Err}
 use Rattle.field.specs.Fields.{signed_field_of}
 use Rattle.branch.specs.Jump.{taken_of, jr_target_of}
 use Rattle.class.specs.declared.Address.{Address}
@@ -13,30 +13,25 @@ use Rattle.effect.specs.declared.Effect.TheVariants as E
 use Rattle.processor.specs.Processor.{Processor, Sound}
 use Rattle.memory.specs.Memory.{word_at, immediate_of}
 use Rattle.places.specs.Places.{place_of}
-use Rattle.memory.specs.declared.Received.{Received}
-use Rattle.memory.specs.declared.Received.TheVariants as I
 use Rattle.places.specs.declared.Place.{Place}
 use Rattle.places.specs.declared.Place.TheVariants as M
 use Rattle.answers.specs.declared.Fault.{Fault}
-use Rattle.answers.specs.declared.End.TheVariants.{Completed, Stopped}
+use Rattle.answers.specs.declared.Activity.TheVariants as A
 use Rattle.gpu_core.specs.declared.Core.{Core}
-use Rattle.gpu_core.specs.declared.Pending.{Pending}
-use Rattle.gpu_core.specs.declared.Pending.TheVariants as Q
 use Rattle.gpu_core.specs.Core.{counter_of, moved_of, skipped_of}
 use Rattle.gpu_core.specs.Machine.{Memory, with_ram, Machine, machine_with}
 use Rattle.gpu_core.specs.Types.{IsMachine}
 use Rattle.outcome.specs.Outcome.{moved_with, done_of, Outcome, unwritten}
 use Rattle.jumps.specs.Jumps.{jump_of}
-use Rattle.loads.specs.Loads.{counter_in, load_of, receives}
+use Rattle.loads.specs.Loads.{counter_in, load_of}
 use Rattle.stores.specs.Stores.{store_of}
-use Rattle.cpu.specs.Step.{apply_of, operands_of, execute_of, advance_of}
+use Rattle.cpu.specs.Step.{receives, apply_of, effected_of, operands_of, execute_of, advance_of}
 use Rattle.laws.proofs.Instruction.{IsCompleted}
 use Rattle.ranges.specs.declared.Range.{Range}
 use Rattle.items.specs.declared.Item.{Item}
-use Rattle.items.specs.declared.Item.TheVariants.{Unbuilt, Built}
 use Rattle.items.specs.declared.Shape.TheVariants.{Other, Movei}
 use Rattle.verdicts.specs.declared.Rule.TheVariants as N
-use Rattle.items.specs.Items.{item_in, item_of, shape_in, shape_of, bytes_of, is_jump, always}
+use Rattle.items.specs.Items.{built, item_in, item_of, shape_in, shape_of, bytes_of, is_jump, always}
 use Rattle.rules.specs.Reading.{breaks_slot, end_of, item_at, shape_at, after}
 use Rattle.ranges.specs.Ranges.{full, unknown, exact_range, is_exactly}
 use Rattle.rules.specs.Known.{address_range, transfer, transfer_of}
@@ -55,7 +50,7 @@ module _ (P : Processor) (sound : Sound P) (code : List ℕ) (small : length cod
   abbrev Steps : Outcome → Type 0
   Steps o = IsCompleted o.end × (Fits unknown o.machine.active → Inv P code o.machine)
 
-  module _ (c : Class) (n : ℕ) (item : item_at P code m.core.pc ≡ Built c n) where
+  module _ (c : Class) (n : ℕ) (item : item_at P code m.core.pc ≡ built c n) where
     shape_is : shape_at P code m.core.pc ≡ shape_in c n
     shape_is = ap shape_of item
 
@@ -64,7 +59,7 @@ module _ (P : Processor) (sound : Sound P) (code : List ℕ) (small : length cod
     Known a = Fits unknown a → Fits (transfer P c n inv.known) a
 
     -- registers, flags or RAM change, and the counter moves by one word
-    moves : bytes_of (shape_in c n) ≡ 2 → always (shape_in c n) ≡ false → (k : Core) (a o : List ℕ) (memory : Memory) → take (length code) memory.ram ≡ code → k.pc ≡ m.core.pc → k.pending ≡ m.core.pending → HoldsValue (shape_in c n) a → Known a → Fits unknown a → Inv P code (machine_with a o (moved_of k Q.None) memory)
+    moves : bytes_of (shape_in c n) ≡ 2 → always (shape_in c n) ≡ false → (k : Core) (a o : List ℕ) (memory : Memory) → take (length code) memory.ram ≡ code → k.pc ≡ m.core.pc → k.pending ≡ m.core.pending → HoldsValue (shape_in c n) a → Known a → Fits unknown a → Inv P code (machine_with a o (moved_of k None) memory)
     moves two never k a o memory same ep eq left f wide =
         arrive P code R sound small inv c n item two never k a o memory same ep eq left (f wide) wide
 
@@ -81,7 +76,7 @@ module _ (P : Processor) (sound : Sound P) (code : List ℕ) (small : length cod
 
     -- an instruction of no other concern to the rules
     module _ (plain : shape_in c n ≡ Other) where
-      plainly : (k : Core) (a o : List ℕ) → k.pc ≡ m.core.pc → k.pending ≡ m.core.pending → Known a → Fits unknown a → Inv P code (machine_with a o (moved_of k Q.None) m.memory)
+      plainly : (k : Core) (a o : List ℕ) → k.pc ≡ m.core.pc → k.pending ≡ m.core.pending → Known a → Fits unknown a → Inv P code (machine_with a o (moved_of k None) m.memory)
       plainly k a o ep eq f wide =
           moves (ap bytes_of plain) (ap always plain) k a o m.memory inv.same_code ep eq (subst (λ s. HoldsValue s a) (sym plain) tt) f wide
 
@@ -94,7 +89,6 @@ module _ (P : Processor) (sound : Sound P) (code : List ℕ) (small : length cod
 
       applied : (e : Effect) → After (bank_write e) → Steps (apply_of P m e)
       unfolding apply_of
-      applied (E.Refused f) h = absurd h
       applied E.Nothing h = (tt, plainly _ _ _ refl refl h)
       applied (E.Write d r) h = (tt, plainly _ _ _ refl refl h)
       applied (E.Keep d v) h = (tt, plainly _ _ _ refl refl h)
@@ -146,53 +140,53 @@ module _ (P : Processor) (sound : Sound P) (code : List ℕ) (small : length cod
   in_address (Indexed r s) = in_sum (fits_at inv.fits r) (fits_at inv.fits s)
 
   -- LOAD and MOVE PC: what was read becomes a register, and nothing is known of it
-  module _ (c : Class) (d n : ℕ) (item : item_at P code m.core.pc ≡ Built c n) (same : d % 32 ≡ d) (two : bytes_of (shape_in c n) ≡ 2) (never : always (shape_in c n) ≡ false) (none_held : (a : List ℕ) → HoldsValue (shape_in c n) a) (forgets : transfer P c n inv.known ≡ set inv.known d full) where
-    receiving : (v : Received) → ((f : Fault) → v ≡ I.Refused f → ⊥) → Steps (receives m (moved_of m.core Q.None) d v)
-    receiving (I.Long k) read =
+  module _ (c : Class) (d n : ℕ) (item : item_at P code m.core.pc ≡ built c n) (same : d % 32 ≡ d) (two : bytes_of (shape_in c n) ≡ 2) (never : always (shape_in c n) ≡ false) (none_held : (a : List ℕ) → HoldsValue (shape_in c n) a) (forgets : transfer P c n inv.known ≡ set inv.known d full) where
+    receiving : (v : Result ℕ Fault) → ((f : Fault) → v ≡ Err f → ⊥) → Steps (receives m (moved_of m.core None) d v)
+    receiving (Ok k) read =
         (tt, moves c n item two never m.core _ m.other m.memory inv.same_code refl refl (none_held _) (subst (λ r. Known c n item (set m.active r k)) (sym same) (unknowing c n item d k forgets)))
-    receiving (I.Refused f) read = absurd (read f refl)
+    receiving (Err f) read = absurd (read f refl)
 
-  read_long : {n : ℕ} (f : Fault) → I.Long n ≡ I.Refused f → ⊥
+  read_long : {n : ℕ} (f : Fault) → Ok n ≡ Err f → ⊥
   read_long f e = let z : ◌≡◌ {A = ℕ} 0 1 = cc in omega arith
 
-  found : (p : Place) (x : Range) (from : ℕ) (low : P.base ≤ from) → Allowed P sound code from low x p → (f : Fault) → load_of m.core m.memory p ≡ I.Refused f → ⊥
-  found (M.Ram at) x from low h = read_long
-  found M.Flags x from low h = read_long
-  found M.Control x from low h = read_long
-  found M.Divide x from low h = read_long
-  found (M.Refused f) x from low h = absurd h
+  found : (p : Result Place Fault) (x : Range) (from : ℕ) (low : P.base ≤ from) → Allowed P sound code from low x p → (f : Fault) → load_of m.core m.memory p ≡ Err f → ⊥
+  found (Ok (M.Ram at)) x from low h = read_long
+  found (Ok M.Flags) x from low h = read_long
+  found (Ok M.Control) x from low h = read_long
+  found (Ok M.Divide) x from low h = read_long
+  found (Err f) x from low h = absurd h
 
   -- STORE
-  module _ (x : Address) (d n : ℕ) (item : item_at P code m.core.pc ≡ Built (C.Store x d) n) where
+  module _ (x : Address) (d n : ℕ) (item : item_at P code m.core.pc ≡ built (C.Store x d) n) where
     -- whether or not the address is the flag register's
     either : (t : Bool) → Fits unknown m.active → Fits (cond t unknown inv.known) m.active
     either true w = w
     either false w = inv.fits
 
-    stays : (k : Core) (memory : Memory) → take (length code) memory.ram ≡ code → k.pc ≡ m.core.pc → k.pending ≡ m.core.pending → Fits unknown m.active → Inv P code (machine_with m.active m.other (moved_of k Q.None) memory)
+    stays : (k : Core) (memory : Memory) → take (length code) memory.ram ≡ code → k.pc ≡ m.core.pc → k.pending ≡ m.core.pending → Fits unknown m.active → Inv P code (machine_with m.active m.other (moved_of k None) memory)
     stays k memory same ep eq =
         moves (C.Store x d) n item refl refl k m.active m.other memory same ep eq tt (either (is_exactly (address_range inv.known x) P.flags))
 
-    stores : (k : ℕ) (p : Place) → Allowed P sound code (end_of P code) (omega arith) (address_range inv.known x) p → Steps (store_of m k p)
-    stores k (M.Ram at) h =
+    stores : (k : ℕ) (p : Result Place Fault) → Allowed P sound code (end_of P code) (omega arith) (address_range inv.known x) p → Steps (store_of m k p)
+    stores k (Ok (M.Ram at)) h =
         (tt, stays m.core (with_ram m.memory _) (behind (length code) m.memory.ram at k (omega (arith, h)) ∙ inv.same_code) refl refl)
-    stores k M.Flags h =
-        (tt, moves (C.Store x d) n item refl refl _ _ _ m.memory inv.same_code refl refl tt (λ w. subst (λ t. Fits (cond t unknown inv.known) (store_of m k M.Flags).machine.active) (sym h) w))
-    stores k M.Control h = go (eqb (k % 2) 0)
+    stores k (Ok M.Flags) h =
+        (tt, moves (C.Store x d) n item refl refl _ _ _ m.memory inv.same_code refl refl tt (λ w. subst (λ t. Fits (cond t unknown inv.known) (store_of m k (Ok M.Flags)).machine.active) (sym h) w))
+    stores k (Ok M.Control) h = go (eqb (k % 2) 0)
       where
-        go : (t : Bool) → Steps (unwritten m (moved_with (cond t Stopped Completed) (moved_of m.core Q.None)))
+        go : (t : Bool) → Steps (unwritten m (moved_with (cond t (Ok A.Stopped) (Ok A.Running)) (moved_of m.core None)))
         go true = (tt, stays m.core m.memory inv.same_code refl refl)
         go false = (tt, stays m.core m.memory inv.same_code refl refl)
-    stores k M.Divide h = (tt, stays _ m.memory inv.same_code refl refl)
-    stores k (M.Refused f) h = absurd h
+    stores k (Ok M.Divide) h = (tt, stays _ m.memory inv.same_code refl refl)
+    stores k (Err f) h = absurd h
 
   -- no jump is pending at an instruction that breaks a slot
-  none_pending : breaks_slot (shape_at P code m.core.pc) ≡ true → m.core.pending ≡ Q.None
+  none_pending : breaks_slot (shape_at P code m.core.pc) ≡ true → m.core.pending ≡ None
   none_pending b = go m.core.pending refl
     where
-      go : (p : Pending) → m.core.pending ≡ p → m.core.pending ≡ Q.None
-      go Q.None e = e
-      go (Q.At t) e = no_way (sym (inv.slot t e).1 ∙ b)
+      go : (p : Option ℕ) → m.core.pending ≡ p → m.core.pending ≡ None
+      go None e = e
+      go (Some t) e = no_way (sym (inv.slot t e).1 ∙ b)
 
   -- the instruction at the counter lies in the code
   even : m.core.pc % 2 ≡ 0
@@ -205,14 +199,14 @@ module _ (P : Processor) (sound : Sound P) (code : List ℕ) (small : length cod
   ends = (R N.AllBuilt m.core.pc inv.previous inv.is_instruction).1
 
   -- JR and JUMP
-  module _ (c : Class) (n : ℕ) (item : item_at P code m.core.pc ≡ Built c n) (is_jump_here : is_jump (shape_in c n) ≡ true) (slot_breaker : breaks_slot (shape_in c n) ≡ true) (two : bytes_of (shape_in c n) ≡ 2) (knows_same : transfer P c n inv.known ≡ inv.known) (leaves : HoldsValue (shape_in c n) m.active) where
-    none : m.core.pending ≡ Q.None
+  module _ (c : Class) (n : ℕ) (item : item_at P code m.core.pc ≡ built c n) (is_jump_here : is_jump (shape_in c n) ≡ true) (slot_breaker : breaks_slot (shape_in c n) ≡ true) (two : bytes_of (shape_in c n) ≡ 2) (knows_same : transfer P c n inv.known ≡ inv.known) (leaves : HoldsValue (shape_in c n) m.active) where
+    none : m.core.pending ≡ None
     none = none_pending (ap breaks_slot (shape_is c n item) ∙ slot_breaker)
 
     four : (after P code m.core.pc < end_of P code) × (breaks_slot (shape_at P code (after P code m.core.pc)) ≡ false)
     four = R N.DelaySlot m.core.pc inv.previous inv.is_instruction (ap is_jump (shape_is c n item) ∙ is_jump_here)
 
-    goes_on : (p : Pending) → (always (shape_in c n) ≡ true → p ≡ Q.None → ⊥) → ((t : ℕ) → p ≡ Q.At t → IsTarget P code t) → Fits unknown m.active → Inv P code (machine_with m.active m.other (moved_of m.core p) m.memory)
+    goes_on : (p : Option ℕ) → (always (shape_in c n) ≡ true → p ≡ None → ⊥) → ((t : ℕ) → p ≡ Some t → IsTarget P code t) → Fits unknown m.active → Inv P code (machine_with m.active m.other (moved_of m.core p) m.memory)
     unfolding transfer_of
     goes_on p waits target w =
         let b : after P code m.core.pc ≡ m.core.pc + 2 = ap (λ i. m.core.pc + bytes_of (shape_of i)) item ∙ ap (λ b. m.core.pc + b) two in
@@ -227,20 +221,20 @@ module _ (P : Processor) (sound : Sound P) (code : List ℕ) (small : length cod
     jumping q t a g =
         subst (λ p. Steps (unwritten m (jump_of m.core p q t))) (sym none) (go (taken_of q m.core.flags) refl)
       where
-        go : (b : Bool) → taken_of q m.core.flags ≡ b → Steps (unwritten m (cond b (moved_with Completed (moved_of m.core (Q.At t))) (done_of m.core)))
+        go : (b : Bool) → taken_of q m.core.flags ≡ b → Steps (unwritten m (cond b (moved_with (Ok A.Running) (moved_of m.core (Some t))) (done_of m.core)))
         go true e =
-            (tt, goes_on (Q.At t) (λ h z. let w : ◌≡◌ {A = ℕ} 0 1 = cc in absurd (omega arith)) (λ u h. let same : t ≡ u = cc in subst (IsTarget P code) same g))
+            (tt, goes_on (Some t) (λ h z. let w : ◌≡◌ {A = ℕ} 0 1 = cc in absurd (omega arith)) (λ u h. let same : t ≡ u = cc in subst (IsTarget P code) same g))
         go false e =
-            (tt, goes_on Q.None (λ h z. let zero : q ≡ 0 = eqb-true q 0 (sym a ∙ h) in no_way (sym e ∙ ap (λ b. taken_of b m.core.flags) zero ∙ always_taken m.core.flags)) (λ u h. let w : ◌≡◌ {A = ℕ} 0 1 = cc in absurd (omega arith)))
+            (tt, goes_on None (λ h z. let zero : q ≡ 0 = eqb-true q 0 (sym a ∙ h) in no_way (sym e ∙ ap (λ b. taken_of b m.core.flags) zero ∙ always_taken m.core.flags)) (λ u h. let w : ◌≡◌ {A = ℕ} 0 1 = cc in absurd (omega arith)))
 
   -- MOVEI
-  moves_immediate : (d n : ℕ) → item_at P code m.core.pc ≡ Built (C.Movei d) n → d % 32 ≡ d → immediate_of P m.memory.ram m.core.pc ≡ I.Long n → Steps (apply_of P m (E.Immediate d))
+  moves_immediate : (d n : ℕ) → item_at P code m.core.pc ≡ built (C.Movei d) n → d % 32 ≡ d → immediate_of P m.memory.ram m.core.pc ≡ Ok n → Steps (apply_of P m (E.Immediate d))
   unfolding apply_of transfer_of
   moves_immediate d n item e long =
       let none = none_pending (ap breaks_slot (shape_is (C.Movei d) n item)) in
       rw (none, long) (tt, λ w. go none w)
     where
-      go : m.core.pending ≡ Q.None → Fits unknown (set m.active (d % 32) n) → Inv P code (machine_with (set m.active (d % 32) n) m.other (skipped_of m.core) m.memory)
+      go : m.core.pending ≡ None → Fits unknown (set m.active (d % 32) n) → Inv P code (machine_with (set m.active (d % 32) n) m.other (skipped_of m.core) m.memory)
       go none w =
           let l = not_last P code R inv none in
           let b : after P code m.core.pc ≡ m.core.pc + 6 = ap (λ i. m.core.pc + bytes_of (shape_of i)) item in
@@ -256,15 +250,15 @@ module _ (P : Processor) (sound : Sound P) (code : List ℕ) (small : length cod
           (λ t h. let z : ◌≡◌ {A = ℕ} 0 1 = cc in absurd (omega arith))
 
   -- MOVE PC
-  moves_counter : (d n : ℕ) → item_at P code m.core.pc ≡ Built (C.MovePc d) n → d % 32 ≡ d → Steps (apply_of P m (E.Counter d))
+  moves_counter : (d n : ℕ) → item_at P code m.core.pc ≡ built (C.MovePc d) n → d % 32 ≡ d → Steps (apply_of P m (E.Counter d))
   unfolding apply_of
   moves_counter d n item e =
       let none = none_pending (ap breaks_slot (shape_is (C.MovePc d) n item)) in
-      subst (λ p. Steps (receives m (moved_of m.core Q.None) d (counter_in m.core p))) (sym none)
-      (receiving (C.MovePc d) d n item e refl refl (λ a. tt) refl (I.Long m.core.pc) read_long)
+      subst (λ p. Steps (receives m (moved_of m.core None) d (counter_in m.core p))) (sym none)
+      (receiving (C.MovePc d) d n item e refl refl (λ a. tt) refl (Ok m.core.pc) read_long)
 
   -- whatever is at the counter
-  stepped : (c : Class) (n : ℕ) → item_at P code m.core.pc ≡ Built c n → ((d : ℕ) → c ≡ C.Movei d → immediate_of P m.memory.ram m.core.pc ≡ I.Long n) → (e : Effect) → Agrees m.active m.core.pc c e → Steps (apply_of P m e)
+  stepped : (c : Class) (n : ℕ) → item_at P code m.core.pc ≡ built c n → ((d : ℕ) → c ≡ C.Movei d → immediate_of P m.memory.ram m.core.pc ≡ Ok n) → (e : Effect) → Agrees m.active m.core.pc c e → Steps (apply_of P m e)
   unfolding apply_of
   stepped C.Quiet n item long e h = silent C.Quiet n item refl refl e h
   stepped (C.Write d) n item long e h = any (C.Write d) n item refl d refl e h
@@ -314,7 +308,7 @@ module _ (P : Processor) (sound : Sound P) (code : List ℕ) (small : length cod
   code_word : (j : ℕ) → j + 2 ≤ length code → word_at code j ≡ word_at m.memory.ram j
   code_word j h = ap (λ l. word_at l j) (sym inv.same_code) ∙ word_same (length code) m.memory.ram j h
 
-  executes : advance_of P m ≡ apply_of P m (effect_in (P.decode (word_at m.memory.ram (m.core.pc - P.base))) m.active (operands_of m.active m.core (word_at m.memory.ram (m.core.pc - P.base) / 32 % 32) (word_at m.memory.ram (m.core.pc - P.base) % 32)))
+  executes : advance_of P m ≡ effected_of P m (effect_in (P.decode (word_at m.memory.ram (m.core.pc - P.base))) m.active (operands_of m.active m.core (word_at m.memory.ram (m.core.pc - P.base) / 32 % 32) (word_at m.memory.ram (m.core.pc - P.base) % 32)))
   unfolding advance_of execute_of
   executes =
       let b = bytes_least (shape_at P code m.core.pc) in
@@ -324,20 +318,22 @@ module _ (P : Processor) (sound : Sound P) (code : List ℕ) (small : length cod
   unfolding item_at item_of
   step = go (item_at P code m.core.pc) refl
     where
-      go : (t : Item) → item_at P code m.core.pc ≡ t → Steps (advance_of P m)
-      go Unbuilt e = absurd ((R N.AllBuilt m.core.pc inv.previous inv.is_instruction).0 e)
-      go (Built c n) e =
+      go : (t : Option Item) → item_at P code m.core.pc ≡ t → Steps (advance_of P m)
+      go None e = absurd ((R N.AllBuilt m.core.pc inv.previous inv.is_instruction).0 e)
+      go (Some i) e =
+          let c = i.class in
+          let n = i.long in
           let j = m.core.pc - P.base in
           let w = word_at m.memory.ram j in
           let b = bytes_least (shape_at P code m.core.pc) in
           let word : word_at code j ≡ w = code_word j (omega (arith, ends, b, low)) in
           let long = word_at code (j + 4) * 2 ^ 16 + word_at code (j + 2) in
           let g = agrees P sound m.active w (operands_of m.active m.core (w / 32 % 32) (w % 32)) refl refl long c n (ap (λ u. item_in (P.decode u) long) (sym word) ∙ e) in
-          subst Steps (sym executes) (stepped c n e (λ d same. immediate d c n e same g.1) _ g.0)
+          subst Steps (sym (executes ∙ ap (effected_of P m) g.1)) (stepped c n e (λ d same. immediate d c n e same g.3) _ g.2)
         where
-          immediate : (d : ℕ) (c : Class) (n : ℕ) → item_at P code m.core.pc ≡ Built c n → c ≡ C.Movei d → word_at code (m.core.pc - P.base + 4) * 2 ^ 16 + word_at code (m.core.pc - P.base + 2) ≡ n → immediate_of P m.memory.ram m.core.pc ≡ I.Long n
+          immediate : (d : ℕ) (c : Class) (n : ℕ) → item_at P code m.core.pc ≡ built c n → c ≡ C.Movei d → word_at code (m.core.pc - P.base + 4) * 2 ^ 16 + word_at code (m.core.pc - P.base + 2) ≡ n → immediate_of P m.memory.ram m.core.pc ≡ Ok n
           immediate d c n e same long =
               let j = m.core.pc - P.base in
-              let six : after P code m.core.pc ≡ m.core.pc + 6 = ap (λ t. m.core.pc + bytes_of (shape_of t)) (e ∙ ap (λ k. Built k n) same) in
+              let six : after P code m.core.pc ≡ m.core.pc + 6 = ap (λ t. m.core.pc + bytes_of (shape_of t)) (e ∙ ap (λ k. built k n) same) in
               fetched_long P m.memory.ram typed.memory_typed.whole sound m.core.pc even low (omega (arith, ends, six, small))
-              ∙ ap I.Long (ap₂ (λ (x y : ℕ). x * 2 ^ 16 + y) (sym (code_word (j + 4) (omega (arith, ends, six, low)))) (sym (code_word (j + 2) (omega (arith, ends, six, low)))) ∙ long)
+              ∙ ap Ok (ap₂ (λ (x y : ℕ). x * 2 ^ 16 + y) (sym (code_word (j + 4) (omega (arith, ends, six, low)))) (sym (code_word (j + 2) (omega (arith, ends, six, low)))) ∙ long)

@@ -1,5 +1,5 @@
 -- "Known" in rule 6: each active register has a range and a yes or no for "multiple of 4".
-use Rattle.std.specs.Prelude.{ℕ, cond, List, slice_set}
+use Rattle.std.specs.Prelude.{ℕ, cond, List, slice_set, Option, Some, None}
 use Rattle.class.specs.declared.Address.{Address}
 use Rattle.class.specs.declared.Address.TheVariants.{At, Offset, Indexed}
 use Rattle.class.specs.declared.Class.{Class}
@@ -8,7 +8,6 @@ use Rattle.processor.specs.Processor.{Processor}
 use Rattle.ranges.specs.declared.Range.{Range}
 use Rattle.ranges.specs.Ranges.{full, unknown, range_at, exact_range, and_range, sum_range, less_range, shifted_range, is_exactly}
 use Rattle.items.specs.declared.Item.{Item}
-use Rattle.items.specs.declared.Item.TheVariants.{Unbuilt, Built}
 
 -- "address sums: ends added"
 abbrev pub address_range : List Range → Address → Range
@@ -36,6 +35,6 @@ module _ (P : Processor) where
   transfer (C.Jump s c) v k = k
   transfer (C.Jr n c) v k = k
 
-  unfoldable pub transfer_of : Item → List Range → List Range
-  transfer_of Unbuilt k = k
-  transfer_of (Built c v) k = transfer c v k
+  unfoldable pub transfer_of : Option Item → List Range → List Range
+  transfer_of None k = k
+  transfer_of (Some i) k = transfer i.class i.long k

@@ -1,5 +1,5 @@
 -- The six loading rules as statements about the code, in paper 01's words. Nothing here is taken from the computed check.
-use Rattle.std.specs.Prelude.{◌≡◌, ℕ, ◌+◌, ◌<◌, ◌≤◌, true, false, List, ◌≢◌}
+use Rattle.std.specs.Prelude.{◌≡◌, ℕ, ◌+◌, ◌<◌, ◌≤◌, true, false, List, ◌≢◌, Option, None}
 use Rattle.class.specs.declared.Address.{Address}
 use Rattle.field.specs.Fields.{signed_field_of}
 use Rattle.branch.specs.Jump.{jr_target_of}
@@ -7,7 +7,6 @@ use Rattle.processor.specs.Processor.{Processor}
 use Rattle.places.specs.Places.{is_register}
 use Rattle.ranges.specs.declared.Range.{Range}
 use Rattle.items.specs.declared.Item.{Item}
-use Rattle.items.specs.declared.Item.TheVariants.{Unbuilt}
 use Rattle.items.specs.declared.Shape.TheVariants.{Movei, Jr, Jump, Load, Store}
 use Rattle.verdicts.specs.declared.Rule.{Rule}
 use Rattle.verdicts.specs.declared.Rule.TheVariants.{AllBuilt, JrTarget, JumpTarget, DelaySlot, Ending, Access}
@@ -24,22 +23,22 @@ module _ (P : Processor) (code : List ℕ) where
     pub inside : a < end_of P code
 
   -- a is the address of an instruction as the code is read straight through, and p stands directly before it
-  abbrev pub IsInstruction : ℕ → Item → Type 0
-  IsInstruction = Stands Item (Reads P code Item Unbuilt (before P code))
+  abbrev pub IsInstruction : ℕ → Option Item → Type 0
+  IsInstruction = Stands (Option Item) (Reads P code (Option Item) None (before P code))
 
   -- 01's "instruction start"
   pub record IsStart (a : ℕ) : Type 0 where
-    pub previous : Item
+    pub previous : Option Item
     pub is_instruction : IsInstruction a previous
 
   -- 01's "target": of a JR, or the value of a MOVEI that a JUMP through the same register directly follows
-  pub data Leads (a : ℕ) (p : Item) (t : ℕ) : Type 0 where
+  pub data Leads (a : ℕ) (p : Option Item) (t : ℕ) : Type 0 where
     by_jr : (n c : ℕ) → shape_at P code a ≡ Jr n c → jr_target_of a (signed_field_of n) ≡ t → Leads a p t
     by_jump : (r c : ℕ) → shape_at P code a ≡ Jump r c → shape_of p ≡ Movei r t → Leads a p t
 
   pub record IsTarget (t : ℕ) : Type 0 where
     pub from : ℕ
-    pub previous : Item
+    pub previous : Option Item
     pub is_instruction : IsInstruction from previous
     pub leads : Leads from previous t
 
@@ -67,27 +66,27 @@ module _ (P : Processor) (code : List ℕ) where
     pub place : Accessible from x
 
   -- 1. "all instructions are built and the last ends exactly at C. The address told is the first instruction's that isn't so."
-  abbrev pub Rule1 : ℕ → Item → Type 0
-  Rule1 a p = (item_at P code a ≢ Unbuilt) × (after P code a ≤ end_of P code)
+  abbrev pub Rule1 : ℕ → Option Item → Type 0
+  Rule1 a p = (item_at P code a ≢ None) × (after P code a ≤ end_of P code)
 
   -- "Rules 2, 3 and 4 tell the address of the JR or JUMP at fault."
   -- 2. "Every JR target, taken or not, is an instruction start in the code."
-  abbrev pub Rule2 : ℕ → Item → Type 0
+  abbrev pub Rule2 : ℕ → Option Item → Type 0
   Rule2 a p = (n c : ℕ) → shape_at P code a ≡ Jr n c → IsStart (jr_target_of a (signed_field_of n))
 
   -- 3. "A JUMP directly follows a MOVEI into its own register of an instruction start in the code. No target of rules 2 and 3 is a
   -- JUMP; a JUMP that is one is the JUMP at fault."
-  abbrev pub Rule3 : ℕ → Item → Type 0
+  abbrev pub Rule3 : ℕ → Option Item → Type 0
   Rule3 a p =
       (r c : ℕ) → shape_at P code a ≡ Jump r c → ((v : ℕ) × (shape_of p ≡ Movei r v) × IsStart v) × (IsTarget a → ⊥)
 
   -- 4. "Each JR and JUMP has an instruction after it, which is not JR, JUMP, MOVEI or MOVE PC."
-  abbrev pub Rule4 : ℕ → Item → Type 0
+  abbrev pub Rule4 : ℕ → Option Item → Type 0
   Rule4 a p =
       is_jump (shape_at P code a) ≡ true → (after P code a < end_of P code) × (breaks_slot (shape_at P code (after P code a)) ≡ false)
 
   -- 5. "The next to last instruction is a JR or JUMP with condition 0; the last is no target. The address told is the last's."
-  abbrev pub Rule5 : ℕ → Item → Type 0
+  abbrev pub Rule5 : ℕ → Option Item → Type 0
   Rule5 a p = after P code a ≡ end_of P code → (always (shape_of p) ≡ true) × (IsTarget a → ⊥)
 
   -- 6. "the allowed RAM (all of it for LOAD, the data window for STORE)"; the data window is RAM behind the code. "The address told
@@ -102,11 +101,11 @@ module _ (P : Processor) (code : List ℕ) where
 
   -- rules 1 to 5 ask of the instruction and the one before it, rule 6 of what is known
   abbrev pub Obeys : Rule → ℕ → Type 0
-  Obeys AllBuilt = Held Item (Reads P code Item Unbuilt (before P code)) Rule1
-  Obeys JrTarget = Held Item (Reads P code Item Unbuilt (before P code)) Rule2
-  Obeys JumpTarget = Held Item (Reads P code Item Unbuilt (before P code)) Rule3
-  Obeys DelaySlot = Held Item (Reads P code Item Unbuilt (before P code)) Rule4
-  Obeys Ending = Held Item (Reads P code Item Unbuilt (before P code)) Rule5
+  Obeys AllBuilt = Held (Option Item) (Reads P code (Option Item) None (before P code)) Rule1
+  Obeys JrTarget = Held (Option Item) (Reads P code (Option Item) None (before P code)) Rule2
+  Obeys JumpTarget = Held (Option Item) (Reads P code (Option Item) None (before P code)) Rule3
+  Obeys DelaySlot = Held (Option Item) (Reads P code (Option Item) None (before P code)) Rule4
+  Obeys Ending = Held (Option Item) (Reads P code (Option Item) None (before P code)) Rule5
   Obeys Access = Held (List Range) Knows Rule6
 
   abbrev pub Everywhere : Rule → Type 0

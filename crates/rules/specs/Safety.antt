@@ -1,16 +1,15 @@
 -- Demand 3, stated: what the check admits, and what a run of an admitted program never does.
-use Rattle.std.specs.Prelude.{◌≡◌, ℕ, zero, suc, ◌%◌, ◌≤◌, ◌↔◌, List, [], ◌∷◌, length, take}
+use Rattle.std.specs.Prelude.{◌≡◌, ℕ, zero, suc, ◌%◌, ◌≤◌, ◌↔◌, List, [], ◌∷◌, length, take, None, Ok, Err}
 use Rattle.processor.specs.Processor.{Processor}
 use Rattle.answers.specs.Answers.{number_of}
-use Rattle.gpu_core.specs.declared.Pending.TheVariants.{None}
-use Rattle.gpu_core.specs.declared.Activity.TheVariants as A
+use Rattle.answers.specs.declared.Activity.TheVariants as A
 use Rattle.gpu_core.specs.Machine.{Memory}
 use Rattle.gpu_core.specs.Types.{IsMemory}
 use Rattle.machine.specs.declared.State.{State}
 use Rattle.machine.specs.State.{IsState}
 use Rattle.machine.specs.Run.{budget_limit, run_of, step_of}
-use Rattle.verdicts.specs.declared.Verdict.{Verdict}
-use Rattle.verdicts.specs.declared.Verdict.TheVariants.{Admitted, RamLength, CodeLength, Broken}
+use Rattle.verdicts.specs.declared.Refusal.TheVariants.{RamLength, CodeLength, Broken}
+use Rattle.verdicts.specs.Verdicts.{Verdict}
 use Rattle.rules.specs.Check.{check_of}
 use Rattle.rules.specs.Rules.{IsStart, Rules, FirstBroken}
 
@@ -67,18 +66,18 @@ pub record IsProgram (P : Processor) (ram : List ℕ) (C : ℕ) : Type 0 where
 -- What each answer of the check says of RAM and the code's length.
 module _ (P : Processor) (ram : List ℕ) (C : ℕ) where
   abbrev pub Means : Verdict → Type 0
-  Means Admitted = IsProgram P ram C × Rules P (take C ram)
-  Means RamLength = length ram ≡ P.size → ⊥
-  Means CodeLength = (length ram ≡ P.size) × (IsProgram P ram C → ⊥)
-  Means (Broken r a) = IsProgram P ram C × FirstBroken P (take C ram) r a
+  Means (Ok u) = IsProgram P ram C × Rules P (take C ram)
+  Means (Err RamLength) = length ram ≡ P.size → ⊥
+  Means (Err CodeLength) = (length ram ≡ P.size) × (IsProgram P ram C → ⊥)
+  Means (Err (Broken r a)) = IsProgram P ram C × FirstBroken P (take C ram) r a
 
 -- Demand 3, "a single claim about the check and the whole run".
 pub record Demand3 (P : Processor) : Type 0 where
   -- "The loading check admits exactly the programs that obey the six rules"
-  pub exactly : (ram : List ℕ) (C : ℕ) → (check_of P ram C ≡ Admitted) ↔ (IsProgram P ram C × Rules P (take C ram))
+  pub exactly : (ram : List ℕ) (C : ℕ) → (check_of P ram C ≡ Ok tt) ↔ (IsProgram P ram C × Rules P (take C ram))
   -- "Start an admitted program running at its first instruction with no jump pending. Whatever the registers, the flags, the rest of
   -- the state and the data hold, and whatever allowed budget it is given", its run is safe.
-  pub safely : (admitted : List ℕ) (C : ℕ) → check_of P admitted C ≡ Admitted → (memory : Memory) (s : State) → Loaded P admitted C memory s
+  pub safely : (admitted : List ℕ) (C : ℕ) → check_of P admitted C ≡ Ok tt → (memory : Memory) (s : State) → Loaded P admitted C memory s
       → (budget : ℕ) → budget ≤ budget_limit → Safe P (take C admitted) memory s budget
 
 -- Beside it: what the check tells where it refuses.
@@ -87,6 +86,6 @@ pub record Tells (P : Processor) : Type 0 where
 
 -- And how an admitted program goes on from call to call: every run is safe, whatever runs came before.
 pub record GoesOn (P : Processor) : Type 0 where
-  pub goes_on : (admitted : List ℕ) (C : ℕ) → check_of P admitted C ≡ Admitted → (memory : Memory) (s : State) → Loaded P admitted C memory s
+  pub goes_on : (admitted : List ℕ) (C : ℕ) → check_of P admitted C ≡ Ok tt → (memory : Memory) (s : State) → Loaded P admitted C memory s
       → (budgets : List ℕ) (budget : ℕ) → budget ≤ budget_limit
       → Safe P (take C admitted) (after_runs P budgets memory s).memory (after_runs P budgets memory s).state budget

@@ -1,103 +1,67 @@
-// Lines of a text: a key, a number and a line feed, read off at a place.
+// Lines of a text: a key, a number and a line feed, read off at a place. A line that was found is told by its number and the
+// place behind it.
 #![tactic(auto)]
 
-ghost use Rattle.std.specs.Prelude.{◌≡◌, ◌≤◌, drop};
-ghost use Rattle.scanner.specs.Lines.{digits, decimal, hexadecimal, digit_value, number_in, keyed_in};
+ghost use Rattle.std.specs.Prelude.{◌≡◌, drop};
+ghost use Rattle.scanner.specs.Lines.{digits, decimal, hexadecimal, number_in, keyed_in};
 ghost use Rattle.scanner.specs.Places.{placed_in};
 
-// A line that was found: its number, and the place behind it.
-#[derive(Clone, Copy)]
-pub enum Found {
-    Number(u32, usize),
-    Nothing,
-}
+mod digits;
+
+use digits::Digits;
 
 // The decimal number that a text begins with, and the line feed behind it.
-pub fn first_number(s: &[u8]) -> Found
+pub fn first_number(s: &[u8]) -> Option<(u32, usize)>
     ensures { result ≡ placed_in s.now (number_in decimal 0 0 s.now) }
 {
-    number(s, 0, 10, 1, 10)
+    number(s, 0, Digits::DECIMAL)
 }
 
+// The text and a place in it stay apart, since `placed_in` counts from the start of the whole text.
+
 // The line at a place, with a decimal number.
-pub fn decimal_line(s: &[u8], at: usize, key: &[u8]) -> Found
+pub fn decimal_line(s: &[u8], at: usize, key: &[u8]) -> Option<(u32, usize)>
     ensures { result ≡ placed_in s.now (keyed_in decimal key.now (drop at s.now)) }
 {
-    line(s, at, key, 10, 1, 10)
+    line(s, at, key, Digits::DECIMAL)
 }
 
 // The line at a place, with a number of eight hexadecimal digits.
-pub fn hex_line(s: &[u8], at: usize, key: &[u8]) -> Found
+pub fn hex_line(s: &[u8], at: usize, key: &[u8]) -> Option<(u32, usize)>
     ensures { result ≡ placed_in s.now (keyed_in hexadecimal key.now (drop at s.now)) }
 {
-    line(s, at, key, 16, 8, 8)
+    line(s, at, key, Digits::HEXADECIMAL)
 }
 
-// The line at a place: the key, then a number in the base, of so many digits at least and at most.
-fn line(s: &[u8], at: usize, key: &[u8], base: u64, least: u32, most: u32) -> Found
-    requires { base ≤ 16 }
-    ensures { result ≡ placed_in s.now (keyed_in (digits base least most) key.now (drop at s.now)) }
+// The line at a place: the key, then a number that is so written.
+#[tactic(auto, using(crate::proofs::Steps::steps))]
+fn line(s: &[u8], at: usize, key: &[u8], f: Digits) -> Option<(u32, usize)>
+    ensures { result ≡ placed_in s.now (keyed_in (digits f.base f.least f.most) key.now (drop at s.now)) }
 {
-    let mut next = at;
-    let mut i = 0;
-    while i < key.len() {
-        if s.len() <= next {
-            return Found::Nothing;
-        }
-        if s[next] != key[i] {
-            return Found::Nothing;
-        }
-        next += 1;
-        i += 1;
-    }
-    number(s, next, base, least, most)
+    let behind = s.get(at..)?.strip_prefix(key)?;
+    number(s, s.len() - behind.len(), f)
 }
 
 // The number at a place, and the line feed behind it.
-fn number(s: &[u8], at: usize, base: u64, least: u32, most: u32) -> Found
-    requires { base ≤ 16 }
-    ensures { result ≡ placed_in s.now (number_in (digits base least most) 0 0 (drop at s.now)) }
+#[tactic(auto, using(crate::proofs::Steps::steps))]
+fn number(s: &[u8], at: usize, f: Digits) -> Option<(u32, usize)>
+    ensures { result ≡ placed_in s.now (number_in (digits f.base f.least f.most) 0 0 (drop at s.now)) }
 {
-    let mut n: u64 = 0;
-    let mut count: u32 = 0;
-    let mut i = at;
-    while i < s.len() {
-        let c = s[i];
-        if c == 10 {
-            if count < least {
-                return Found::Nothing;
-            }
-            return Found::Number(n as u32, i + 1);
+    let text = s.get(at..)?;
+    let mut n: u32 = 0;
+    for (count, &c) in text.iter().enumerate() {
+        if c == b'\n' {
+            return if count < f.least {
+                None
+            } else {
+                Some((n, at + count + 1))
+            };
         }
-        let d = digit_value(c);
-        if base <= d {
-            return Found::Nothing;
+        let d = f.value(c)?;
+        if f.most <= count {
+            return None;
         }
-        if most <= count {
-            return Found::Nothing;
-        }
-        let m = n * base + d;
-        if 4294967295 < m {
-            return Found::Nothing;
-        }
-        n = m;
-        count += 1;
-        i += 1;
+        n = n.checked_mul(f.base)?.checked_add(d)?;
     }
-    Found::Nothing
-}
-
-fn digit_value(c: u8) -> u64
-    ensures { result ≡ digit_value c }
-{
-    if c < 48 {
-        return 16;
-    }
-    if c < 58 {
-        return (c - 48) as u64;
-    }
-    if c < 65 {
-        return 16;
-    }
-    if c < 71 { (c - 55) as u64 } else { 16 }
+    None
 }

@@ -27,7 +27,7 @@ pub fn normi(s: u32, c: u32) -> Computed
         Computed { value: 0, carry: c }
     } else {
         // The highest one is at place 31 less the leading zeros; less 22 that is 9 less them.
-        let zeros = u32::leading_zeros(s) as u64;
+        let zeros = s.leading_zeros() as u64;
         Computed {
             value: ((4294967305 - zeros) % 4294967296) as u32,
             carry: c,

@@ -1,4 +1,4 @@
-// SAT8, SAT16 and SAT24.
+// SAT8, SAT16 and SAT24. Each is an instruction of its own, with its bound, over `saturated`.
 ghost use Rattle.std.specs.Prelude.{◌≡◌};
 ghost use Rattle.shifter.specs.Saturate.{clamp_of, saturated_of, sat8_of, sat16_of, sat24_of};
 

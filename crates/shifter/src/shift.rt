@@ -5,6 +5,8 @@ ghost use Rattle.shifter.specs.Shift.{left_of, right_of, right_signed_of, shift_
 use values::Computed;
 use values::signed::{magnitude, signed, unsigned};
 
+// The three shifts differ in their operator and in what 32 places or more leave: no parameter would make one of them plainer.
+
 // Left by k places.
 pub fn left(d: u32, k: u32) -> Computed
     ensures { result ≡ left_of d k }
@@ -56,24 +58,27 @@ pub fn right_signed(d: u32, k: u32) -> Computed
     }
 }
 
-pub fn sh(d: u32, s: u32) -> Computed
-    ensures { result ≡ shift_of right_of d s }
+// By the signed number s: left where it is negative; else to the right, which the caller has shifted by as many places.
+fn shift(d: u32, s: u32, to_right: Computed) -> Computed
+    ensures { result ≡ shift_of (λ _ _. to_right) d s }
 {
     if signed(s) < 0 {
         left(d, magnitude(s))
     } else {
-        right(d, magnitude(s))
+        to_right
     }
+}
+
+pub fn sh(d: u32, s: u32) -> Computed
+    ensures { result ≡ shift_of right_of d s }
+{
+    shift(d, s, right(d, magnitude(s)))
 }
 
 pub fn sha(d: u32, s: u32) -> Computed
     ensures { result ≡ shift_of right_signed_of d s }
 {
-    if signed(s) < 0 {
-        left(d, magnitude(s))
-    } else {
-        right_signed(d, magnitude(s))
-    }
+    shift(d, s, right_signed(d, magnitude(s)))
 }
 
 // Right by the low five bits of k, the bits that leave coming in at the top.

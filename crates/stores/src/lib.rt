@@ -5,51 +5,53 @@ ghost use Rattle.std.specs.Prelude.{◌≡◌, length};
 ghost use Rattle.processor.specs.Processor.{gpu};
 ghost use Rattle.places.specs.Places.{place_of};
 ghost use Rattle.gpu_core.specs.Machine.{machine_with, lent};
-ghost use Rattle.outcome.specs.Outcome.{outcome_with};
+ghost use Rattle.outcome.specs.Outcome.{moved_with, outcome_with};
 ghost use Rattle.stores.specs.Stores.{control_of, store_of};
 
-use answers::End;
-use gpu_core::{Core, Pending};
+use answers::{Activity, End};
+use gpu_core::Core;
 use memory::put_long;
-use outcome::{Moved, done, ended, fault};
+use outcome::done;
 use places::{Place, locate};
 use registers::settle;
 
 // A write of v to the control register.
-fn control(k: Core, v: u32) -> Moved
-    ensures { result ≡ control_of k v }
+fn control(k: &mut Core, v: u32) -> End
+    ensures { moved_with result k.new ≡ control_of k.old v }
 {
-    let next = k.moved(Pending::None);
+    k.move_on(None);
     if v % 2 == 0 {
-        ended(End::Stopped, next)
+        Ok(Activity::Stopped)
     } else {
-        ended(End::Completed, next)
+        Ok(Activity::Running)
     }
 }
 
 pub fn store(
     a: &mut [u32; 32],
     o: &mut [u32; 32],
-    k: Core,
+    k: &mut Core,
     ram: &mut [u8],
     address: u32,
     v: u32,
-) -> Moved
+) -> End
     requires { length ram.old ≡ gpu.size }
-    ensures { outcome_with result a.new o.new (lent ram.new) ≡ store_of (machine_with a.old o.old k (lent ram.old)) v (place_of gpu address) }
+    ensures { outcome_with (moved_with result k.new) a.new o.new (lent ram.new) ≡ store_of (machine_with a.old o.old k.old (lent ram.old)) v (place_of gpu address) }
 {
-    let p = locate(address);
-    match p {
+    match locate(address)? {
         Place::Ram(at) => {
             put_long(ram, at, v);
             done(k)
         }
         Place::Flags => {
             settle(a, o, k.bank % 2 == v / 16384 % 2);
-            done(k.with_flag_register(v))
+            k.set_flag_register(v);
+            done(k)
         }
         Place::Control => control(k, v),
-        Place::Divide => done(k.with_mode(v)),
-        Place::Refused(f) => fault(f, k),
+        Place::Divide => {
+            k.mode = v % 2;
+            done(k)
+        }
     }
 }

@@ -1,34 +1,32 @@
-// Writes a text of the table, with the address for '@' and the count for '#'.
+// Writes a text of the table, with the address for '@' and the count for '#'. These two stay apart: they are told independently, and a
+// struct of them would be made and taken apart here alone.
 #![tactic(auto)]
 
-ghost use Rattle.std.specs.Prelude.{◌+◌, ◌≤◌, length};
-ghost use Rattle.text.specs.Wrote.{Wrote, Begins};
+ghost use Rattle.std.specs.Prelude.{◌≡◌, ◌+◌, ◌++◌, ◌≤◌};
+ghost use Rattle.arrayvec.specs.ArrayVec.{array_vec_len};
 ghost use Rattle.template.specs.Fill.{substituted, filled, width_of, room_of};
 
-use text::{decimal, hex, put};
+use arrayvec::ArrayVec;
+use text::{copy, decimal, hex};
 
-pub fn fill(out: &mut [u8; 1024], text: &[u8], address: u32, count: u32) -> usize
+pub fn fill(text: &[u8], address: u32, count: u32) -> ArrayVec<u8, 1024>
     requires { room_of text.now ≤ 1024 }
-    ensures { Begins out.old (filled text.now address count) out.new result }
+    ensures { result.items ≡ filled text.now address count }
 {
-    let mut next = 0;
-    let mut i = 0;
-    while i < text.len() {
-        next = write_byte(out, next, text[i], address, count);
-        i += 1;
+    let mut out = ArrayVec::new();
+    for &byte in text {
+        write_byte(&mut out, byte, address, count);
     }
-    next
+    out
 }
 
-fn write_byte(out: &mut [u8], at: usize, byte: u8, address: u32, count: u32) -> usize
-    requires { at + width_of byte ≤ length out.old }
-    ensures { Wrote out.old at (substituted byte address count) out.new result }
+fn write_byte<const N: usize>(out: &mut ArrayVec<u8, N>, byte: u8, address: u32, count: u32)
+    requires { array_vec_len out.old + width_of byte ≤ N }
+    ensures { out.new.items ≡ out.old.items ++ substituted byte address count }
 {
-    if byte == 64 {
-        return hex(out, at, 8, address);
+    match byte {
+        b'@' => copy(out, &hex::<8>(address)),
+        b'#' => copy(out, &decimal(count)),
+        _ => out.push(byte),
     }
-    if byte == 35 {
-        return decimal(out, at, count);
-    }
-    put(out, at, byte)
 }

@@ -1,35 +1,39 @@
-// Text in lent bytes. Each function writes at a place of the array and answers the place behind what it wrote.
+// Numbers as text, and text appended to more, in vectors of a fixed capacity.
 #![tactic(auto)]
 
-ghost use Rattle.std.specs.Prelude.{◌≡◌, [], ◌∷◌, ◌+◌, ◌<◌, ◌≤◌, length};
+ghost use Rattle.std.specs.Prelude.{◌≡◌, ◌+◌, ◌++◌, ◌<◌, ◌≤◌, length};
+ghost use Rattle.arrayvec.specs.ArrayVec.{array_vec_len};
 ghost use Rattle.text.specs.Digits.{digit_of, hex_digits, decimal_of};
-ghost use Rattle.text.specs.Wrote.{Wrote};
 
-// Writes n in decimal, with no leading zeros.
-pub fn decimal(out: &mut [u8], at: usize, n: u32) -> usize
-    requires { at + length (decimal_of n) ≤ length out.old }
-    ensures { Wrote out.old at (decimal_of n) out.new result }
+use arrayvec::ArrayVec;
+
+// The digits of n in decimal, with no leading zeros. std's Display promises them only where it answers Ok, and this always.
+pub fn decimal(n: u32) -> ArrayVec<u8, 10>
+    ensures { result.items ≡ decimal_of n }
 {
-    let one_digit = n < 10;
-    if one_digit {
-        put(out, at, digit(n))
-    } else {
-        let next = decimal(out, at, n / 10);
-        put(out, next, digit(n % 10))
+    let mut digits = ArrayVec::new();
+    let mut rest = n;
+    while rest >= 10 {
+        digits.push(digit(rest % 10));
+        rest /= 10;
     }
+    digits.push(digit(rest));
+    digits.reverse();
+    digits
 }
 
-// Writes the last k hexadecimal digits of n.
-pub fn hex(out: &mut [u8], at: usize, k: usize, n: u32) -> usize
-    requires { at + k ≤ length out.old }
-    ensures { Wrote out.old at (hex_digits k n) out.new result }
+// The last K hexadecimal digits of n.
+pub fn hex<const K: usize>(n: u32) -> ArrayVec<u8, K>
+    ensures { result.items ≡ hex_digits K n }
 {
-    if k == 0 {
-        at
-    } else {
-        let next = hex(out, at, k - 1, n / 16);
-        put(out, next, digit(n % 16))
+    let mut digits = ArrayVec::new();
+    let mut rest = n;
+    for _ in 0..K {
+        digits.push(digit(rest % 16));
+        rest /= 16;
     }
+    digits.reverse();
+    digits
 }
 
 fn digit(d: u32) -> u8
@@ -39,23 +43,12 @@ fn digit(d: u32) -> u8
     if d < 10 { 48 + d as u8 } else { 55 + d as u8 }
 }
 
-pub fn copy(out: &mut [u8], at: usize, bytes: &[u8]) -> usize
-    requires { at + length bytes.now ≤ length out.old }
-    ensures { Wrote out.old at bytes.now out.new result }
+// Appends the bytes.
+pub fn copy<const N: usize>(out: &mut ArrayVec<u8, N>, bytes: &[u8])
+    requires { array_vec_len out.old + length bytes.now ≤ N }
+    ensures { out.new.items ≡ out.old.items ++ bytes.now }
 {
-    let mut next = at;
-    let mut i = 0;
-    while i < bytes.len() {
-        next = put(out, next, bytes[i]);
-        i += 1;
+    for &byte in bytes {
+        out.push(byte);
     }
-    next
-}
-
-pub fn put(out: &mut [u8], at: usize, byte: u8) -> usize
-    requires { at < length out.old }
-    ensures { Wrote out.old at (byte ∷ []) out.new result }
-{
-    out[at] = byte;
-    at + 1
 }

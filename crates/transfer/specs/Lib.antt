@@ -1,1 +1,1 @@
-pub mod InPlace
+pub mod Reached

@@ -5,21 +5,13 @@ ghost use Rattle.values.specs.Signed.{signed_of, signed16_of, unsigned_of};
 pub fn signed(x: u32) -> i32
     ensures { result ≡ signed_of x }
 {
-    if x < 2147483648 {
-        x as i32
-    } else {
-        -1 - (4294967295 - x) as i32
-    }
+    x.cast_signed()
 }
 
 pub fn unsigned(v: i32) -> u32
     ensures { result ≡ unsigned_of v }
 {
-    if v < 0 {
-        4294967295 - (-1 - v) as u32
-    } else {
-        v as u32
-    }
+    v.cast_unsigned()
 }
 
 // The signed number of the low 16 bits. Moved up by 2^15 and down again, it has no branch.
@@ -33,9 +25,5 @@ pub fn signed16(x: u32) -> i32
 pub fn magnitude(x: u32) -> u32
     ensures { result ≡ nat_abs (signed_of x) }
 {
-    if x < 2147483648 {
-        x
-    } else {
-        4294967295 - x + 1
-    }
+    signed(x).unsigned_abs()
 }

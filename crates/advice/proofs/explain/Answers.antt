@@ -1,6 +1,7 @@
 -- `explain` meets its contract: by what was read, and by what was written of it.
 use borrow.Author.Tests.{leb-true}
-use mathlib.Core.Path.{refl, sym, ◌∙◌}
+use mathlib.Core.Path.{refl, sym, ap, ◌∙◌}
+use Rattle.std.proofs.Common.{Ok, Err}
 use Rattle.text.specs.Bytes.{bytes}
 use Rattle.template.specs.Fill.{room_of}
 use Rattle.advice.proofs.Saying.{explained}
@@ -10,24 +11,24 @@ pub fill-requires : goal.fill-requires
 unfolding room_of
 fill-requires c = leb-true _ 1024 refl
 
-pub fill-requires-in-NotACard : goal.fill-requires-in-NotACard
+pub fill-requires-in-Err-NotACard : goal.fill-requires-in-Err-NotACard
 unfolding room_of
-fill-requires-in-NotACard c = leb-true _ 1024 refl
+fill-requires-in-Err-NotACard c = leb-true _ 1024 refl
 
-pub returns-in-Card : goal.returns-in-Card
-returns-in-Card c =
-    explained _ (sym c.read.ensures ∙ c.in-Card.is) c.run_text.ensures
+pub returns-in-Ok-Card : goal.returns-in-Ok-Card
+returns-in-Ok-Card c =
+    explained _ (sym c.read.ensures ∙ c.in-Ok-Card.is ∙ ap Ok c.in-Ok-Card.field-0-is) c.run_text.ensures
 
-pub returns-in-Check : goal.returns-in-Check
-returns-in-Check c =
-    explained _ (sym c.read.ensures ∙ c.in-Check.is) c.check_text.ensures
+pub returns-in-Ok-Check : goal.returns-in-Ok-Check
+returns-in-Ok-Check c =
+    explained _ (sym c.read.ensures ∙ c.in-Ok-Check.is ∙ ap Ok c.in-Ok-Check.field-0-is) c.check_text.ensures
 
-pub returns-in-Damaged : goal.returns-in-Damaged
+pub returns-in-Err-Damaged : goal.returns-in-Err-Damaged
 unfolding bytes
-returns-in-Damaged c =
-    explained _ (sym c.read.ensures ∙ c.in-Damaged.is) c.fill.ensures
+returns-in-Err-Damaged c =
+    explained _ (sym c.read.ensures ∙ c.in-Err-Damaged.is ∙ ap Err c.in-Err-Damaged.field-0-is) c.fill.ensures
 
-pub returns-in-NotACard : goal.returns-in-NotACard
+pub returns-in-Err-NotACard : goal.returns-in-Err-NotACard
 unfolding bytes
-returns-in-NotACard c =
-    explained _ (sym c.read.ensures ∙ c.in-NotACard.is) c.fill-in-NotACard.ensures
+returns-in-Err-NotACard c =
+    explained _ (sym c.read.ensures ∙ c.in-Err-NotACard.is ∙ ap Err c.in-Err-NotACard.field-0-is) c.fill-in-Err-NotACard.ensures

@@ -6,14 +6,13 @@ use Rattle.block.proofs.read_bank.Goals as goal
 
 pub loop-i-init : goal.loop-i-init
 unfolding longs
-loop-i-init c = (omega arith, refl, refl)
+loop-i-init c = (refl, refl)
 
 pub loop-i-preserved : goal.loop-i-preserved
 unfolding longs
 loop-i-preserved c =
     let l = c.loop-i in
-    let h : l.i < length l.b = omega (arith, c.loop-i-test.true, l.invariant.1) in (
-      omega (arith, c.loop-i-test.true),
-      simp length-set l.invariant.1,
-      rw (add-one, take-suc-set l.b l.i c.long_at.result h, l.invariant.2, c.long_at.ensures, longs_more _ _ l.i),
+    let h : l.i < length l.b = omega (arith, c.loop-i-test.true, l.invariant.0) in (
+      simp length-set l.invariant.0,
+      rw (add-one, take-suc-set l.b l.i c.long_at.result h, l.invariant.1, c.long_at.ensures, longs_more _ _ l.i),
     )

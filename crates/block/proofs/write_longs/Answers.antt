@@ -6,18 +6,15 @@ use Rattle.block.proofs.write_longs.Goals as goal
 
 pub loop-i-init : goal.loop-i-init
 unfolding put_longs
-loop-i-init c = (omega arith, refl, refl)
+loop-i-init c = (refl, refl)
 
 pub loop-i-preserved : goal.loop-i-preserved
 loop-i-preserved c =
     let k = c.loop-i in
-    let less : k.i < length c.args.l.now = omega (arith, c.loop-i-test.true) in (
-      omega arith,
-      c.put_long.auto.ram ∙ k.invariant.1,
-      rw (add-one k.i, puts_more _ _ _ k.i less, ← k.invariant.2) c.put_long.ensures,
-    )
+    let less : k.i < length c.args.l.now = omega (arith, c.loop-i-test.true) in
+    (c.put_long.auto.ram ∙ k.invariant.0, rw (add-one k.i, puts_more _ _ _ k.i less, ← k.invariant.1) c.put_long.ensures)
 
 pub returns : goal.returns
 returns c =
     let k = c.loop-i in
-    rw (take_all k.i _ c.loop-i-test.false) at k.invariant.2
+    rw (take_all k.i _ c.loop-i-test.false) at k.invariant.1

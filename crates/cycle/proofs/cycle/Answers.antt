@@ -1,29 +1,23 @@
--- `cycle` meets its contract. The loop's invariant: what is left of the run, from here, is the whole run.
-use Rattle.std.proofs.Common.{◌≡◌, ◌+◌, ◌-◌, sym, ◌∙◌, arith, rules}
+-- `cycle` meets its contract: one more instruction by how it ended, and nothing behind the budget.
+use Rattle.std.proofs.Common.{Ok, Err, sym, ◌∙◌, arith, rules}
+use Rattle.answers.specs.declared.Activity.TheVariants as A
 use Rattle.cycle.proofs.Runs.{spent, one}
 use Rattle.cycle.proofs.cycle.Goals as goal
 
-pub returns-in-Stopped : goal.returns-in-Stopped
-returns-in-Stopped c =
-    sym (one _ _ _ _ c.loop-rest-test.true _ _ _ _ c.advance-m.ensures ∙ rw c.in-Stopped.is) ∙ c.loop-rest.invariant.2
+pub returns-in-Ok-Stopped : goal.returns-in-Ok-Stopped
+returns-in-Ok-Stopped c =
+    sym (one _ _ _ _ (omega (arith, c.loop-steps-test.true)) _ (Ok A.Stopped) (search rules) _ _ _ _ c.advance-end.ensures ∙ search rules) ∙ c.loop-steps.invariant.rest
 
-pub returns-in-Faulted : goal.returns-in-Faulted
-returns-in-Faulted c =
-    sym (one _ _ _ _ c.loop-rest-test.true _ _ _ _ c.advance-m.ensures ∙ rw c.in-Faulted.is) ∙ c.loop-rest.invariant.2
+pub returns-in-Err : goal.returns-in-Err
+returns-in-Err c =
+    sym (one _ _ _ _ (omega (arith, c.loop-steps-test.true)) _ _ c.in-Err.is _ _ _ _ c.advance-end.ensures ∙ rw c.in-Err.is) ∙ c.loop-steps.invariant.rest
 
-pub loop-rest-preserved : goal.loop-rest-preserved
-loop-rest-preserved c =
-    let i = c.loop-rest in
-    let b = c.args.budget in
-    let e : b - (i.rest - 1) ≡ b - i.rest + 1 = omega (arith, c.loop-rest-test.true, i.invariant.0) in (
-      omega (arith, i.invariant.0),
-      search rules,
-      rw e (sym (one _ _ _ _ c.loop-rest-test.true _ _ _ _ c.advance-m.ensures ∙ rw c.in-Completed.is) ∙ i.invariant.2),
-    )
+pub loop-steps-preserved : goal.loop-steps-preserved
+loop-steps-preserved c =
+    record {
+      whole = search rules;
+      rest = sym (one _ _ _ _ (omega (arith, c.loop-steps-test.true)) _ (Ok A.Running) (search rules) _ _ _ _ c.advance-end.ensures) ∙ c.loop-steps.invariant.rest;
+    }
 
 pub returns : goal.returns
-returns c =
-    let i = c.loop-rest in
-    let b = c.args.budget in
-    let e : b - i.rest ≡ b = omega (arith, c.loop-rest-test.false) in
-    sym (spent _ _ _ _ c.loop-rest-test.false _ e) ∙ i.invariant.2
+returns c = sym (spent _ _ _ _ (omega (arith, c.loop-steps-test.false, c.loop-steps.auto.steps-end))) ∙ c.loop-steps.invariant.rest

@@ -4,5 +4,5 @@ use Rattle.kiosk.proofs.gpu_check.Goals as goal
 
 pub returns-clause-display : goal.returns-clause-display
 returns-clause-display c =
-    let k = c.check-v.ensures in
+    let k = c.check-answer.ensures in
     display

@@ -30,9 +30,9 @@ returns-in-Stopped-clause-laws c = (laws gpu gpu_sound, rows_hold)
 pub returns-in-Running-clause-ram_after : goal.returns-in-Running-clause-ram_after
 unfolding run_of
 returns-in-Running-clause-ram_after c =
-    let first = is_one c.from_banks-g.result.core.bank in
-    let e = rw c.core.ensures at c.from_banks-g.ensures in
-    rw (eq-eqb _ _ c.if-not-is_whole.false, le-ltb _ _ c.if-budget-gt-BUDGET_LIMIT.false, c.in-Running.is, c.state_with.ensures, c.activity.ensures, c.answer.ensures, ← e, settled first c.from_banks-g.new.bank0 c.from_banks-g.new.bank1, settled first c.from_banks-g.new.bank1 c.from_banks-g.new.bank0)
+    let first = is_one c.from_banks-g.new.k.bank in
+    let e = rw c.core-k.ensures at c.from_banks-g.ensures in
+    rw (eq-eqb _ _ c.if-not-is_whole.false, le-ltb _ _ c.if-budget-gt-BUDGET_LIMIT.false, c.in-Running.is, c.state_with.ensures, c.activity.ensures, c.from.ensures, ← e, settled first c.from_banks-g.new.bank0 c.from_banks-g.new.bank1, settled first c.from_banks-g.new.bank1 c.from_banks-g.new.bank0)
 
 pub returns-in-Running-clause-holds_bytes : goal.returns-in-Running-clause-holds_bytes
 unfolding run_of

@@ -1,37 +1,31 @@
 -- `rest_of_card` meets its contract: by the lines that were found, the one that was not, and the end of the text.
-use Prim.Native.Nat.{ℕ}
-use lib.Seq.{drop-cons}
+use Rattle.std.proofs.Common.{ℕ, rules, drop-cons}
 use lib.ListN.{drop_of_length-le}
-use Rattle.scanner.proofs.Places.{told_line}
+use Rattle.scanner.proofs.Places.{read_line}
 use Rattle.text.specs.Bytes.{bytes}
 use Rattle.parser.specs.Readings.{card_reading}
 use Rattle.parser.proofs.rest_of_card.Goals as goal
 
-pub returns-in_default : goal.returns-in_default
+pub returns-in_err-pc : goal.returns-in_err-pc
 unfolding card_reading bytes
-returns-in_default c = rw (← told_line _ _ _ _ _ c.hex_line.ensures, c.in_default.is)
+returns-in_err-pc c = rw (read_line _ _ _ _ _ _ c.hex_line.ensures c.ok_or.ensures.ok_part, c.in_err-pc.was) (search rules)
 
-pub returns-in_default-hex_line : goal.returns-in_default-hex_line
+pub returns-in_err-fifth : goal.returns-in_err-fifth
 unfolding card_reading bytes
-returns-in_default-hex_line c =
-    rw (← told_line _ _ _ _ _ c.hex_line.ensures, c.in-Number.is, ← told_line _ _ _ _ _ c.hex_line-2.ensures, c.in_default-hex_line.is)
+returns-in_err-fifth c = rw (read_line _ _ _ _ _ _ c.hex_line.ensures c.ok_or.ensures.ok_part, c.in_ok-pc.was, read_line _ _ _ _ _ _ c.hex_line-2.ensures c.ok_or-2.ensures.ok_part, c.in_err-fifth.was) (search rules)
 
-pub returns-in_default-hex_line-2 : goal.returns-in_default-hex_line-2
+pub returns-in_err-sixth : goal.returns-in_err-sixth
 unfolding card_reading bytes
-returns-in_default-hex_line-2 c =
-    rw (← told_line _ _ _ _ _ c.hex_line.ensures, c.in-Number.is, ← told_line _ _ _ _ _ c.hex_line-2.ensures, c.in-Number-hex_line.is, ← told_line _ _ _ _ _ c.hex_line-3.ensures, c.in_default-hex_line-2.is)
+returns-in_err-sixth c = rw (read_line _ _ _ _ _ _ c.hex_line.ensures c.ok_or.ensures.ok_part, c.in_ok-pc.was, read_line _ _ _ _ _ _ c.hex_line-2.ensures c.ok_or-2.ensures.ok_part, c.in_ok-fifth.was, read_line _ _ _ _ _ _ c.hex_line-3.ensures c.ok_or-3.ensures.ok_part, c.in_err-sixth.was) (search rules)
 
-pub returns-in_default-hex_line-3 : goal.returns-in_default-hex_line-3
+pub returns-in_err-end : goal.returns-in_err-end
 unfolding card_reading bytes
-returns-in_default-hex_line-3 c =
-    rw (← told_line _ _ _ _ _ c.hex_line.ensures, c.in-Number.is, ← told_line _ _ _ _ _ c.hex_line-2.ensures, c.in-Number-hex_line.is, ← told_line _ _ _ _ _ c.hex_line-3.ensures, c.in-Number-hex_line-2.is, ← told_line _ _ _ _ _ c.hex_line-4.ensures, c.in_default-hex_line-3.is)
+returns-in_err-end c = rw (read_line _ _ _ _ _ _ c.hex_line.ensures c.ok_or.ensures.ok_part, c.in_ok-pc.was, read_line _ _ _ _ _ _ c.hex_line-2.ensures c.ok_or-2.ensures.ok_part, c.in_ok-fifth.was, read_line _ _ _ _ _ _ c.hex_line-3.ensures c.ok_or-3.ensures.ok_part, c.in_ok-sixth.was, read_line _ _ _ _ _ _ c.hex_line-4.ensures c.ok_or-4.ensures.ok_part, c.in_err-end.was) (search rules)
 
 pub returns-then-end-s : goal.returns-then-end-s
 unfolding card_reading bytes
-returns-then-end-s c =
-    rw (← told_line _ _ _ _ _ c.hex_line.ensures, c.in-Number.is, ← told_line _ _ _ _ _ c.hex_line-2.ensures, c.in-Number-hex_line.is, ← told_line _ _ _ _ _ c.hex_line-3.ensures, c.in-Number-hex_line-2.is, ← told_line _ _ _ _ _ c.hex_line-4.ensures, c.in-Number-hex_line-3.is, drop-cons {A = ℕ} _ _ 0 c.if-end-s.true)
+returns-then-end-s c = rw (read_line _ _ _ _ _ _ c.hex_line.ensures c.ok_or.ensures.ok_part, c.in_ok-pc.was, read_line _ _ _ _ _ _ c.hex_line-2.ensures c.ok_or-2.ensures.ok_part, c.in_ok-fifth.was, read_line _ _ _ _ _ _ c.hex_line-3.ensures c.ok_or-3.ensures.ok_part, c.in_ok-sixth.was, read_line _ _ _ _ _ _ c.hex_line-4.ensures c.ok_or-4.ensures.ok_part, c.in_ok-end.was, drop-cons {A = ℕ} _ _ 0 c.if-end-s.true)
 
 pub returns : goal.returns
 unfolding card_reading bytes
-returns c =
-    rw (← told_line _ _ _ _ _ c.hex_line.ensures, c.in-Number.is, ← told_line _ _ _ _ _ c.hex_line-2.ensures, c.in-Number-hex_line.is, ← told_line _ _ _ _ _ c.hex_line-3.ensures, c.in-Number-hex_line-2.is, ← told_line _ _ _ _ _ c.hex_line-4.ensures, c.in-Number-hex_line-3.is, drop_of_length-le _ c.if-end-s.false)
+returns c = rw (read_line _ _ _ _ _ _ c.hex_line.ensures c.ok_or.ensures.ok_part, c.in_ok-pc.was, read_line _ _ _ _ _ _ c.hex_line-2.ensures c.ok_or-2.ensures.ok_part, c.in_ok-fifth.was, read_line _ _ _ _ _ _ c.hex_line-3.ensures c.ok_or-3.ensures.ok_part, c.in_ok-sixth.was, read_line _ _ _ _ _ _ c.hex_line-4.ensures c.ok_or-4.ensures.ok_part, c.in_ok-end.was, drop_of_length-le _ c.if-end-s.false)

@@ -1,24 +1,14 @@
--- `line` meets its contract. The loop's invariant: what is left of the key and of the text gives what the whole gives.
-use mathlib.Core.Path.{sym, ap, ◌∙◌}
-use native.Mathlib.Numerals.{add-one}
+-- `line` meets its contract: what is behind the key is behind the place and the key's length.
+use Rattle.std.proofs.Common.{arith, ◌+◌, ◌-◌, ◌≡◌, length, drop, sym, ap, ◌∙◌, drop-drop}
+use Rattle.scanner.specs.Lines.{number_in, keyed_in}
 use Rattle.scanner.specs.Places.{placed_in}
-use Rattle.scanner.proofs.Steps.{key_read, key_cut, key_other, key_next}
+use Rattle.scanner.proofs.Steps.{key_same, slice_behind}
 use Rattle.scanner.proofs.line.Goals as goal
-
-pub returns-then-s-next : goal.returns-then-s-next
-returns-then-s-next c =
-    ap (placed_in _) (sym (key_cut _ _ _ _ _ c.loop-i-test.true c.if-s-next.true) ∙ c.loop-i.invariant)
-
-pub returns-then-s-next-2 : goal.returns-then-s-next-2
-returns-then-s-next-2 c =
-    ap (placed_in _) (sym (key_other _ _ _ _ _ c.loop-i-test.true c.if-s-next.false c.if-s-next-2.true) ∙ c.loop-i.invariant)
-
-pub loop-i-preserved : goal.loop-i-preserved
-loop-i-preserved c =
-    let l = c.loop-i in
-    rw (add-one l.i, add-one l.next) (sym (key_next _ _ _ _ _ c.loop-i-test.true c.if-s-next.false c.if-s-next-2.false) ∙ l.invariant)
 
 pub returns : goal.returns
 returns c =
-    let a = c.args in
-    c.number.ensures ∙ ap (placed_in _) (sym (key_read _ a.key.now a.s.now c.loop-i.i c.loop-i.next c.loop-i-test.false) ∙ c.loop-i.invariant)
+    let here : c.in_ok-get.field-0.now ≡ drop c.args.at c.args.s.now = c.in_ok-get.ensures.lookup.0.2 ∙ slice_behind c.args.s.now c.args.at in
+    let place : length c.args.s.now - length c.in_ok-behind.behind.now ≡ c.args.at + length c.args.key.now = omega (arith, c.in_ok-get.ensures.lookup.0.3, c.in_ok-behind.ensures.cases.2) in
+    let behind = ap (λ i. drop i c.args.s.now) place ∙ sym (drop-drop _ c.args.at _) ∙ ap (drop _) (sym here) in
+    c.number.ensures
+    ∙ ap (placed_in _) (ap (number_in _ 0 0) behind ∙ sym (key_same _ _ _ c.in_ok-behind.ensures.cases.0) ∙ ap (keyed_in _ _) here)

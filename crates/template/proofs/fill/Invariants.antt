@@ -1,13 +1,9 @@
--- `fill` meets its contract. The loop's invariant: the first i bytes are written, up to `next`, and there is room for the rest.
-use Prim.Native.Nat.{◌+◌, ◌-◌, ◌≤◌}
-use lib.ListN.{length, drop, take}
-use Rattle.text.specs.Wrote.{Wrote}
+-- What is written, and behind it the rest filled in, is the whole; and there is room for the rest.
+use Rattle.std.proofs.Common.{◌≡◌, ◌+◌, ◌++◌, ◌≤◌, drop, length}
 use Rattle.template.specs.Fill.{filled, room_of}
 use Rattle.template.proofs.fill.Given as goal
 
-abbrev pub invariant-loop-i : goal.invariant-loop-i
-invariant-loop-i l =
-    (l.i ≤ length l.text) × (l.next + room_of (drop l.i l.text) ≤ 1024) × Wrote l.initial.out 0 (filled (take l.i l.text) l.address l.count) l.out l.next × (l.next ≤ length l.initial.out)
-
-abbrev pub decreases-loop-i : goal.decreases-loop-i
-decreases-loop-i l = length l.text - l.i
+abbrev pub invariant-loop-byte : goal.invariant-loop-byte
+invariant-loop-byte l =
+    let rest = drop l.byte-index l.text in
+    (l.out.items ++ filled rest l.address l.count ≡ filled l.text l.address l.count) × (length l.out.items + room_of rest ≤ 1024)

@@ -9,7 +9,6 @@ use Rattle.card.proofs.image.print.Goals as goal
 pub returns : goal.returns
 unfolding printed_of
 returns c =
-    let a = c.args in
-    rw (c.write.ensures.counted, c.write.ensures.stored, c.told.ensures)
-    (ap (λ t. printed_from t a.out.now) c.run-r.ensures.ram_after
-    ∙ ap (λ t. printed_from (run_of gpu (lent a.ram.now) t image_budget) a.out.now) c.start.ensures)
+    rw (c.write.ensures, c.told.ensures)
+    (ap printed_from c.run-r.ensures.ram_after
+    ∙ ap (λ t. printed_from (run_of gpu (lent c.args.ram.now) t image_budget)) c.start.ensures)

@@ -6,7 +6,7 @@ use Rattle.passes.proofs.Least.{Least}
 use Rattle.passes.proofs.broken.lowest_broken.Given as goal
 
 abbrev pub invariant-loop-i : goal.invariant-loop-i
-invariant-loop-i l = Least gpu l.code l.i l.p l.limit
+invariant-loop-i l = Least gpu l.marked.code.now l.i l.p l.lowest
 
 abbrev pub decreases-loop-i : goal.decreases-loop-i
-decreases-loop-i l = length l.code - l.i
+decreases-loop-i l = length l.marked.code.now - l.i

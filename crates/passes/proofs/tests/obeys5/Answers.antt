@@ -6,15 +6,15 @@ use Rattle.processor.specs.Processor.{gpu}
 use Rattle.passes.proofs.Here.{ok5_here}
 use Rattle.passes.proofs.tests.obeys5.Goals as goal
 
-pub returns-then-i-size : goal.returns-then-i-size
-returns-then-i-size c =
-    rw (ok5_here gpu c.requires.0 c.shape_of.ensures c.args.p c.size.ensures.0, ne_eqb _ _ c.if-i-size.true)
+pub returns-then-at-size : goal.returns-then-at-size
+returns-then-at-size c =
+    rw (ok5_here gpu c.args.at.now.here c.shape_of.ensures c.args.at.now.before c.size.ensures.0, ne_eqb _ _ c.if-at-size.true)
 
 pub returns-then-always_jumps : goal.returns-then-always_jumps
 returns-then-always_jumps c =
     rw (
-      ok5_here gpu c.requires.0 c.shape_of.ensures c.args.p c.size.ensures.0,
-      eq-eqb _ _ c.if-i-size.false,
+      ok5_here gpu c.args.at.now.here c.shape_of.ensures c.args.at.now.before c.size.ensures.0,
+      eq-eqb _ _ c.if-at-size.false,
       ← c.shape_of-2.ensures,
       ← c.always_jumps.ensures,
       c.if-always_jumps.true,
@@ -24,8 +24,8 @@ returns-then-always_jumps c =
 pub returns-else-always_jumps : goal.returns-else-always_jumps
 returns-else-always_jumps c =
     rw (
-      ok5_here gpu c.requires.0 c.shape_of.ensures c.args.p c.size.ensures.0,
-      eq-eqb _ _ c.if-i-size.false,
+      ok5_here gpu c.args.at.now.here c.shape_of.ensures c.args.at.now.before c.size.ensures.0,
+      eq-eqb _ _ c.if-at-size.false,
       ← c.shape_of-2.ensures,
       ← c.always_jumps.ensures,
       c.if-always_jumps.false,

@@ -1,9 +1,0 @@
--- `run` is safe and ends: the number counts up to the total.
-use Rattle.std.proofs.Common.{◌-◌, ◌≤◌}
-use Rattle.vectors.proofs.digest.run.Given as goal
-
-abbrev pub invariant-loop-n : goal.invariant-loop-n
-invariant-loop-n l = l.n ≤ l.total
-
-abbrev pub decreases-loop-n : goal.decreases-loop-n
-decreases-loop-n l = l.total - l.n
