@@ -1,5 +1,5 @@
 // An effect applied: the registers, RAM and the core after it, and the counter moved on.
-ghost use Rattle.std.specs.Prelude.{◌≡◌, length};
+ghost use Rattle.std.specs.Prelude.{◌≡◌};
 ghost use Rattle.processor.specs.Processor.{gpu};
 ghost use Rattle.gpu_core.specs.Machine.{machine_with, lent};
 ghost use Rattle.outcome.specs.Outcome.{moved_with, outcome_with};
@@ -11,13 +11,19 @@ use gpu_core::Core;
 use jumps::jump;
 use loads::{counter, immediate, load};
 use outcome::done;
+use processor::Gpu;
 use registers::{get, put};
 use stores::store;
 
 // The effect's changes to the active bank, the other bank, the core and RAM.
 #[tactic(auto, unfolding(crate::specs::Step::apply_of))]
-pub fn apply(a: &mut [u32; 32], o: &mut [u32; 32], k: &mut Core, ram: &mut [u8], e: Effect) -> End
-    requires { length ram.old ≡ gpu.size }
+pub fn apply(
+    a: &mut [u32; 32],
+    o: &mut [u32; 32],
+    k: &mut Core,
+    ram: &mut [u8; Gpu::SIZE],
+    e: Effect,
+) -> End
     ensures { outcome_with (moved_with result k.new) a.new o.new (lent ram.new) ≡ apply_of gpu (machine_with a.old o.old k.old (lent ram.old)) e }
 {
     match e {

@@ -1,5 +1,5 @@
 // One instruction: fetched, decoded to its effect, and applied.
-ghost use Rattle.std.specs.Prelude.{◌≡◌, ◌<◌, length};
+ghost use Rattle.std.specs.Prelude.{◌≡◌, ◌<◌};
 ghost use Rattle.processor.specs.Processor.{gpu};
 ghost use Rattle.gpu_core.specs.Machine.{machine_with, lent};
 ghost use Rattle.outcome.specs.Outcome.{moved_with, outcome_with};
@@ -10,6 +10,7 @@ use answers::{End, Fault};
 use effect::{Operands, effect_at};
 use gpu_core::Core;
 use memory::fetch;
+use processor::Gpu;
 use registers::get;
 
 // What an instruction reads, by its source and destination fields.
@@ -32,8 +33,13 @@ fn operands_of(a: &[u32; 32], k: &Core, s: u32, d: u32) -> Operands
 
 // The instruction of a word that was fetched.
 #[tactic(auto, unfolding(crate::specs::Step::execute_of))]
-fn execute(a: &mut [u32; 32], o: &mut [u32; 32], k: &mut Core, ram: &mut [u8], w: u16) -> End
-    requires { length ram.old ≡ gpu.size }
+fn execute(
+    a: &mut [u32; 32],
+    o: &mut [u32; 32],
+    k: &mut Core,
+    ram: &mut [u8; Gpu::SIZE],
+    w: u16,
+) -> End
     ensures { outcome_with (moved_with result k.new) a.new o.new (lent ram.new) ≡ execute_of gpu (machine_with a.old o.old k.old (lent ram.old)) w }
 {
     // The fields are taken apart once, for the operands and for the effect.
@@ -47,8 +53,7 @@ fn execute(a: &mut [u32; 32], o: &mut [u32; 32], k: &mut Core, ram: &mut [u8], w
 
 // One whole instruction of a running machine: the active bank and the other one, the core, and RAM after it.
 #[tactic(auto, unfolding(crate::specs::Step::advance_of), using(memory::proofs::Refusals::counter_alone))]
-pub fn advance(a: &mut [u32; 32], o: &mut [u32; 32], k: &mut Core, ram: &mut [u8]) -> End
-    requires { length ram.old ≡ gpu.size }
+pub fn advance(a: &mut [u32; 32], o: &mut [u32; 32], k: &mut Core, ram: &mut [u8; Gpu::SIZE]) -> End
     ensures { outcome_with (moved_with result k.new) a.new o.new (lent ram.new) ≡ advance_of gpu (machine_with a.old o.old k.old (lent ram.old)) }
 {
     // The word or the refusal, which is always this one; what follows takes only a word.

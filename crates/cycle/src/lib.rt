@@ -1,7 +1,7 @@
 // Instructions one after another up to a budget, on registers and RAM that are lent.
 #![tactic(auto)]
 
-ghost use Rattle.std.specs.Prelude.{◌≡◌, length};
+ghost use Rattle.std.specs.Prelude.{◌≡◌};
 ghost use Rattle.processor.specs.Processor.{gpu};
 ghost use Rattle.gpu_core.specs.Machine.{active_in, other_in, machine_with, lent};
 ghost use Rattle.cycle.specs.Runs.{runs_with, runs_of};
@@ -9,6 +9,7 @@ ghost use Rattle.cycle.specs.Runs.{runs_with, runs_of};
 use answers::{Activity, End};
 use cpu::advance;
 use gpu_core::Core;
+use processor::Gpu;
 use registers::settle;
 
 // How instructions ended, and how many were completed. The machine after them is the one that was lent.
@@ -20,8 +21,13 @@ pub struct Gone {
 
 // Instructions one after another, from the active bank and the other one; these change places only by a store to the flag
 // register. The machine runs, and the loop is left when it stops.
-fn cycle(a: &mut [u32; 32], o: &mut [u32; 32], k: &mut Core, ram: &mut [u8], budget: u32) -> Gone
-    requires { length ram.old ≡ gpu.size }
+fn cycle(
+    a: &mut [u32; 32],
+    o: &mut [u32; 32],
+    k: &mut Core,
+    ram: &mut [u8; Gpu::SIZE],
+    budget: u32,
+) -> Gone
     ensures { runs_with result a.new o.new k.new (lent ram.new) ≡ runs_of gpu budget 0 (machine_with a.old o.old k.old (lent ram.old)) }
 {
     for steps in 0..budget {
@@ -48,10 +54,9 @@ pub fn from_banks(
     bank0: &mut [u32; 32],
     bank1: &mut [u32; 32],
     k: &mut Core,
-    ram: &mut [u8],
+    ram: &mut [u8; Gpu::SIZE],
     budget: u32,
 ) -> Gone
-    requires { length ram.old ≡ gpu.size }
     ensures { runs_with result (active_in bank0.new bank1.new k.new) (other_in bank0.new bank1.new k.new) k.new (lent ram.new) ≡ runs_of gpu budget 0 (machine_with (active_in bank0.old bank1.old k.old) (other_in bank0.old bank1.old k.old) k.old (lent ram.old)) }
 {
     settle(bank0, bank1, k.bank % 2 != 1);

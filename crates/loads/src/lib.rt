@@ -1,7 +1,7 @@
 // What a register receives, by a MOVEI, a MOVE PC or a LOAD.
 #![tactic(auto)]
 
-ghost use Rattle.std.specs.Prelude.{◌≡◌, length};
+ghost use Rattle.std.specs.Prelude.{◌≡◌};
 ghost use Rattle.processor.specs.Processor.{gpu};
 ghost use Rattle.places.specs.Places.{place_of};
 ghost use Rattle.gpu_core.specs.Machine.{lent};
@@ -11,10 +11,10 @@ use answers::Fault;
 use gpu_core::Core;
 use memory::{fetch_long, long_at};
 use places::{Place, locate};
+use processor::Gpu;
 
 // The long of a MOVEI.
-pub fn immediate(k: &Core, ram: &[u8]) -> Result<u32, Fault>
-    requires { length ram.now ≡ gpu.size }
+pub fn immediate(k: &Core, ram: &[u8; Gpu::SIZE]) -> Result<u32, Fault>
     ensures { result ≡ immediate_in gpu k.now (lent ram.now) k.now.pending }
 {
     match k.pending {
@@ -34,8 +34,7 @@ pub fn counter(k: &Core) -> Result<u32, Fault>
 }
 
 // What a LOAD finds.
-pub fn load(k: &Core, ram: &[u8], address: u32) -> Result<u32, Fault>
-    requires { length ram.now ≡ gpu.size }
+pub fn load(k: &Core, ram: &[u8; Gpu::SIZE], address: u32) -> Result<u32, Fault>
     ensures { result ≡ load_of k.now (lent ram.now) (place_of gpu address) }
 {
     let p = locate(address)?;

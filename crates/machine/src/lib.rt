@@ -78,19 +78,19 @@ fn activity(end: End) -> Activity
 // A run of at most budget instructions. A refused run changes nothing. The second promise: what the laws and demand 3 assume of
 // RAM and of a state is so wherever a run is called. The third: the laws of runs, and that the rows of paper 01 that are marked p hold
 // of the effects that a run is made of.
+#[tactic(auto, unfolding(crate::specs::Run::run_of))]
 pub fn run(ram: &mut [u8], state: State, budget: u64) -> Ran
     ensures ram_after { ran_with result (lent ram.new) ≡ run_of gpu (lent ram.old) state budget }
     ensures holds_bytes { HoldsBytes (lent ram.old) × IsState state }
     ensures laws { Laws gpu × RowsHold }
 {
-    let is_whole = ram.len() == Gpu::SIZE;
-    if !is_whole {
+    let Some(ram) = ram.as_mut_array::<{ Gpu::SIZE }>() else {
         return Ran {
             answer: Answer::RamLength,
             steps: 0,
             state,
         };
-    }
+    };
     if BUDGET_LIMIT < budget {
         return Ran {
             answer: Answer::BudgetLimit,

@@ -16,8 +16,7 @@ fn word_at(ram: &[u8], at: usize) -> u32
 }
 
 // The word at a counter, or the refusal.
-pub fn fetch(ram: &[u8], pc: u32) -> Result<u16, Fault>
-    requires { length ram.now ≡ gpu.size }
+pub fn fetch(ram: &[u8; Gpu::SIZE], pc: u32) -> Result<u16, Fault>
     ensures { result ≡ fetch_of gpu ram.now pc }
 {
     let at = Gpu::offset(pc) as usize;
@@ -30,15 +29,14 @@ pub fn fetch(ram: &[u8], pc: u32) -> Result<u16, Fault>
 }
 
 // The long of a MOVEI at pc: the low word behind it, then the high word. One test does for both.
-pub fn fetch_long(ram: &[u8], pc: u32) -> Result<u32, Fault>
-    requires { length ram.now ≡ gpu.size }
+pub fn fetch_long(ram: &[u8; Gpu::SIZE], pc: u32) -> Result<u32, Fault>
     ensures { result ≡ immediate_of gpu ram.now pc }
 {
     let at = Gpu::offset(pc.wrapping_add(2)) as usize;
     if at % 2 == 1 {
         return Err(Fault::BadCounter);
     }
-    if at + 3 < ram.len() {
+    if at + 3 < Gpu::SIZE {
         let low = word_at(ram, at);
         let high = word_at(ram, at + 2);
         Ok(high * 65536 + low)

@@ -1,7 +1,7 @@
 // A STORE: into RAM, or to a chip register, on registers and RAM that are lent.
 #![tactic(auto)]
 
-ghost use Rattle.std.specs.Prelude.{◌≡◌, length};
+ghost use Rattle.std.specs.Prelude.{◌≡◌};
 ghost use Rattle.processor.specs.Processor.{gpu};
 ghost use Rattle.places.specs.Places.{place_of};
 ghost use Rattle.gpu_core.specs.Machine.{machine_with, lent};
@@ -13,6 +13,7 @@ use gpu_core::Core;
 use memory::put_long;
 use outcome::done;
 use places::{Place, locate};
+use processor::Gpu;
 use registers::settle;
 
 // A write of v to the control register.
@@ -31,11 +32,10 @@ pub fn store(
     a: &mut [u32; 32],
     o: &mut [u32; 32],
     k: &mut Core,
-    ram: &mut [u8],
+    ram: &mut [u8; Gpu::SIZE],
     address: u32,
     v: u32,
 ) -> End
-    requires { length ram.old ≡ gpu.size }
     ensures { outcome_with (moved_with result k.new) a.new o.new (lent ram.new) ≡ store_of (machine_with a.old o.old k.old (lent ram.old)) v (place_of gpu address) }
 {
     match locate(address)? {
