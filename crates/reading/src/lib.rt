@@ -5,7 +5,7 @@
 ghost use Rattle.std.specs.Prelude.{◌≡◌, ◌+◌, ◌≤◌, ◌<◌, length};
 ghost use Rattle.processor.specs.Processor.{gpu};
 ghost use Rattle.rules.specs.Check.{is_start, is_target};
-ghost use Rattle.reading.specs.Marks.{mark_count, mark_at, mark, unmarked, MovedInto, Targets, MarksStarts, MarksTargets};
+ghost use Rattle.reading.specs.Marks.{mark_count, mark_at, mark, MovedInto, Targets, MarksStarts, MarksTargets};
 ghost use Rattle.reading.specs.Offsets.{Here};
 
 use branch::jr_target;

@@ -1,4 +1,4 @@
-// Numbers as text, and text appended to more, in vectors of a fixed capacity.
+// Numbers as digits, and bytes appended to a text, in vectors of a fixed capacity.
 #![tactic(auto)]
 
 ghost use Rattle.std.specs.Prelude.{◌≡◌, ◌+◌, ◌++◌, ◌<◌, ◌≤◌, length};
