@@ -148,7 +148,7 @@ def check_needs(archive):
         fail("the archive lacks a function of the header")
     variables = [name for kind, name in symbols if kind in "bBcCdDsS"]
     needed = {name for kind, name in symbols if kind == "U"}
-    if variables or not needed <= {"memcpy", "memset"}:
+    if variables or not needed <= {"memset"}:
         fail(f"the archive has the variables {variables} and needs {sorted(needed)}")
 
 

@@ -28,7 +28,7 @@ module _ (P : Processor) where
   transfer_in None k = refl
   transfer_in (Some i) k = refl
 
-  access_by_end : (code : List ℕ) (k : List Range) (s : Shape) → access_ok P code k s ≡ access_of P (end_of P code) k s
+  pub access_by_end : (code : List ℕ) (k : List Range) (s : Shape) → access_ok P code k s ≡ access_of P (end_of P code) k s
   access_by_end code k Other = refl
   access_by_end code k (Movei d v) = refl
   access_by_end code k MovePc = refl

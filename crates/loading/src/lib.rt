@@ -10,7 +10,7 @@ ghost use Rattle.rules.specs.Safety.{Demand3, Tells, GoesOn};
 use accesses::first_access;
 use passes::{first_broken, lowest_broken};
 use processor::Gpu;
-use reading::Marked;
+use reading::{MARKS, Marked, mark_code};
 use verdicts::{Refusal, Rule};
 
 // A rule is broken where its pass found an instruction.
@@ -28,7 +28,10 @@ fn rules(code: &[u8]) -> Result<(), Refusal>
     requires { length code.now ≤ gpu.size }
     ensures { result ≡ rules_of gpu code.now }
 {
-    let marked = Marked::of(code);
+    let mut starts = [false; MARKS];
+    let mut targets = [false; MARKS];
+    mark_code(code, &mut starts, &mut targets);
+    let marked = Marked::of(code, &starts, &targets);
     match lowest_broken(&marked) {
         Some(rule) => told(rule, first_broken(rule, &marked)),
         None => told(Rule::Access, first_access(&marked)),

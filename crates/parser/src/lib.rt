@@ -49,9 +49,9 @@ fn rest_of_card(s: &[u8], at: usize, answer: u32, steps: u32) -> Result<Reading,
     let (pc, fourth) = hex_line(s, at, b"pc=").ok_or(NotRead::Damaged { line: 3 })?;
     let (_, fifth) = hex_line(s, fourth, b"flags=").ok_or(NotRead::Damaged { line: 4 })?;
     let (_, sixth) = hex_line(s, fifth, b"remain=").ok_or(NotRead::Damaged { line: 5 })?;
-    let (_, end) = hex_line(s, sixth, b"acc=").ok_or(NotRead::Damaged { line: 6 })?;
-    if end < s.len() {
-        return Err(NotRead::Damaged { line: 7 });
+    match hex_line(s, sixth, b"acc=") {
+        None => Err(NotRead::Damaged { line: 6 }),
+        Some((_, end)) if end < s.len() => Err(NotRead::Damaged { line: 7 }),
+        Some(_) => Ok(Reading::Card { answer, steps, pc }),
     }
-    Ok(Reading::Card { answer, steps, pc })
 }

@@ -5,7 +5,7 @@
 ghost use Rattle.std.specs.Prelude.{◌≡◌, ◌+◌, ◌≤◌, ◌<◌, length};
 ghost use Rattle.processor.specs.Processor.{gpu};
 ghost use Rattle.rules.specs.Check.{is_start, is_target};
-ghost use Rattle.reading.specs.Marks.{mark_count, mark_at, mark, MovedInto, Targets, MarksStarts, MarksTargets};
+ghost use Rattle.reading.specs.Marks.{mark_count, unmarked, mark_at, mark, MovedInto, Targets, MarksStarts, MarksTargets};
 ghost use Rattle.reading.specs.Offsets.{Here};
 
 use branch::jr_target;
@@ -58,39 +58,45 @@ fn target(a: u32, p: Shape, s: Shape) -> Option<u32>
     }
 }
 
-// The code, with the marks of its instruction starts and of its targets.
-#[derive(Drop)]
+// Marks the instruction starts and the targets in one reading of the code. The marks that are lent are clear.
+pub fn mark_code(code: &[u8], starts: &mut [bool; MARKS], targets: &mut [bool; MARKS])
+    requires { (length code.now ≤ gpu.size) × (starts.old ≡ unmarked gpu) × (targets.old ≡ unmarked gpu) }
+    ensures { MarksStarts gpu code.now starts.new × MarksTargets gpu code.now targets.new }
+{
+    let mut i: usize = 0;
+    let mut p = None;
+    // An instruction's length is the step, so that no counter by one stands here.
+    while i < code.len() {
+        let a = Gpu::BASE + i as u32;
+        let t = item_at(code, i);
+        let s = shape_of(t);
+        set_mark(starts, a);
+        if let Some(to) = target(a, shape_of(p), s) {
+            set_mark(targets, to);
+        }
+        i += size(s);
+        p = t;
+    }
+}
+
+// The code, with the marks of its instruction starts and of its targets. The marks are lent: if they stood in here they would be
+// copied, and for that alone the archive would need `memcpy` of the C library.
+#[derive(Clone, Copy)]
 pub struct Marked<'a> {
     pub code: &'a [u8],
-    starts: [bool; MARKS],
-    targets: [bool; MARKS],
+    starts: &'a [bool; MARKS],
+    targets: &'a [bool; MARKS],
     pub ghost fits: { length code.now ≤ gpu.size },
-    pub ghost marks_starts: { MarksStarts gpu code.now starts },
-    pub ghost marks_targets: { MarksTargets gpu code.now targets },
+    pub ghost marks_starts: { MarksStarts gpu code.now starts.now },
+    pub ghost marks_targets: { MarksTargets gpu code.now targets.now },
 }
 
 impl<'a> Marked<'a> {
-    // Marks the instruction starts and the targets in one reading of the code.
-    pub fn of(code: &'a [u8]) -> Marked<'a>
-        requires { length code.now ≤ gpu.size }
+    // The code with the marks that were made of it.
+    pub fn of(code: &'a [u8], starts: &'a [bool; MARKS], targets: &'a [bool; MARKS]) -> Marked<'a>
+        requires { (length code.now ≤ gpu.size) × MarksStarts gpu code.now starts.now × MarksTargets gpu code.now targets.now }
         ensures { result.code.now ≡ code.now }
     {
-        let mut starts = [false; MARKS];
-        let mut targets = [false; MARKS];
-        let mut i: usize = 0;
-        let mut p = None;
-        // An instruction's length is the step, so that no counter by one stands here.
-        while i < code.len() {
-            let a = Gpu::BASE + i as u32;
-            let t = item_at(code, i);
-            let s = shape_of(t);
-            set_mark(&mut starts, a);
-            if let Some(to) = target(a, shape_of(p), s) {
-                set_mark(&mut targets, to);
-            }
-            i += size(s);
-            p = t;
-        }
         Marked {
             code,
             starts,
@@ -101,7 +107,7 @@ impl<'a> Marked<'a> {
     pub fn is_start(&self, t: u32) -> bool
         ensures { result ≡ is_start gpu self.now.code.now t }
     {
-        is_marked(&self.starts, t)
+        is_marked(self.starts, t)
     }
 
     // Whether the instruction at an offset is a target.
@@ -109,7 +115,7 @@ impl<'a> Marked<'a> {
         requires { i < mark_count gpu }
         ensures { result ≡ is_target gpu self.now.code.now (gpu.base + i) }
     {
-        is_marked(&self.targets, Gpu::BASE + i as u32)
+        is_marked(self.targets, Gpu::BASE + i as u32)
     }
 }
 

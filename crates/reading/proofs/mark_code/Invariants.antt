@@ -1,4 +1,4 @@
--- `Marked::of` meets its contract: what is marked and what is left to read make up the starts, and the targets.
+-- `mark_code` meets its contract: what is marked and what is left to read make up the starts, and the targets.
 use Rattle.std.proofs.Common.{Option, None}
 use Prim.Native.Nat.{◌+◌, ◌-◌, ◌≤◌}
 use mathlib.Core.Path.{◌≡◌}
@@ -11,7 +11,7 @@ use Rattle.rules.specs.Reading.{shape_at, before}
 use Rattle.rules.specs.Check.{leads}
 use Rattle.reading.specs.Marks.{mark_count, Near}
 use Rattle.reading.proofs.Marking.{Marked}
-use Rattle.reading.proofs.Marked.of.Given as goal
+use Rattle.reading.proofs.mark_code.Given as goal
 
 abbrev pub invariant-loop-i : goal.invariant-loop-i
 invariant-loop-i l =

@@ -1,27 +1,29 @@
--- `Marked::of` meets its contract: what is marked and what is left to read make up the starts, and the targets.
+-- `mark_code` meets its contract: what is marked and what is left to read make up the starts, and the targets.
 use Prim.Native.Nat.{ℕ, ◌+◌}
 use native.Mathlib.Omega.{arith}
-use mathlib.Core.Path.{◌≡◌, sym, ◌∙◌, ap}
-use mathlib.Core.Bool.{false, ◌||◌}
+use mathlib.Core.Path.{◌≡◌, sym, subst, ◌∙◌, ap}
+use mathlib.Core.Bool.{◌||◌}
 use mathlib.Core.Logic.{inl, inr}
-use lib.ListN.{length, length-replicate}
+use lib.ListN.{length}
+use Rattle.std.proofs.Common.{None}
 use Rattle.processor.specs.Processor.{gpu}
 use Rattle.items.specs.Items.{shape_of, bytes_of}
 use Rattle.rules.specs.Check.{leads, is_start, is_target}
 use Rattle.reading.specs.Marks.{mark_count, mark_at, tells, Near}
 use Rattle.reading.proofs.Offsets.{item_at_lem}
-use Rattle.reading.proofs.Marking.{marked_first, marked_on, marked_carry, marked_past, mark_at_lem, length_mark, or_false}
-use Rattle.reading.proofs.Marked.of.Goals as goal
-use Rattle.reading.proofs.Marked.of.Goals.{in-Some, in_default}
+use Rattle.reading.proofs.Marking.{Marked, marked_first, marked_on, marked_carry, marked_past, mark_at_lem, length_mark, or_false}
+use Rattle.reading.proofs.mark_code.Goals as goal
+use Rattle.reading.proofs.mark_code.Goals.{in-Some, in_default}
 
 pub loop-i-init : goal.loop-i-init
-loop-i-init c = (
-  omega arith,
-  length-replicate (mark_count gpu) false,
-  length-replicate (mark_count gpu) false,
-  marked_first _ _ _ _ _ _ _ (mark_count gpu),
-  marked_first _ _ _ _ _ _ _ (mark_count gpu),
-)
+loop-i-init c =
+    let e = c.requires in (
+      omega arith,
+      ap length e.1,
+      ap length e.2,
+      subst (Marked _ _ _ _ _ _ _ 0 None) (sym e.1) (marked_first _ _ _ _ _ _ _ (mark_count gpu)),
+      subst (Marked _ _ _ _ _ _ _ 0 None) (sym e.2) (marked_first _ _ _ _ _ _ _ (mark_count gpu)),
+    )
 
 pub loop-i-preserved : goal.loop-i-preserved
 loop-i-preserved c =
@@ -57,13 +59,11 @@ loop-i-preserved c =
           ∙ ap (λ q. leads (gpu.base + l.i) (shape_of l.p) q t) (c.shape_of-s.ensures ∙ ap shape_of (g ∙ sym (item_at_lem gpu _ l.i)))))),
     )
 
-pub invariant_of-result : goal.invariant_of-result
+pub returns : goal.returns
 unfolding is_start is_target
-invariant_of-result c =
+returns c =
     let l = c.loop-i in
-    let h = c.loop-i-test.false in
-    record {
-      fits = c.requires;
-      marks_starts = record { starts = λ t. marked_past _ _ _ _ _ _ _ l.i l.p l.starts l.invariant.3 h t tt };
-      marks_targets = record { targets = λ t s. marked_past _ _ _ _ _ _ _ l.i l.p l.targets l.invariant.4 h t s };
-    }
+    let h = c.loop-i-test.false in (
+      record { starts = λ t. marked_past _ _ _ _ _ _ _ l.i l.p l.starts l.invariant.3 h t tt },
+      record { targets = λ t s. marked_past _ _ _ _ _ _ _ l.i l.p l.targets l.invariant.4 h t s },
+    )
