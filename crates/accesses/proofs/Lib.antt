@@ -1,1 +1,1 @@
-mod Turn
+pub mod Turn

@@ -7,7 +7,7 @@ use Rattle.verdicts.specs.Verdicts.{rule_number}
 use Rattle.items.specs.declared.Item.{Item}
 use Rattle.rules.specs.Check.{ok1, ok2, ok3, ok4, ok5}
 
--- the test of one of the rules 1 to 5; the passes do not ask for rule 6, which is tested as the fifth here
+-- the test of one of the rules 1 to 5; rule 6 is tested as the fifth, and the check does not ask for it here
 abbrev pub test_of : Processor → List ℕ → Rule → ℕ → Option Item → Bool
 test_of P code AllBuilt = ok1 P code
 test_of P code JrTarget = ok2 P code

@@ -33,7 +33,7 @@ pub fn lowest_broken(marked: &Marked) -> Option<Rule>
     lowest
 }
 
-// The first address at which one of the rules 1 to 5 is broken.
+// The first address at which the given rule, one of 1 to 5, is broken; rule 6 is taken for rule 5, as in `test_of`.
 pub fn first_broken(rule: Rule, marked: &Marked) -> Option<u32>
     ensures { result ≡ first_failing gpu marked.now.code.now (test_of gpu marked.now.code.now rule) }
 {

@@ -78,8 +78,8 @@ fn obeys5(at: &Instruction) -> bool
     always_jumps(shape_of(at.before)) && !at.marked.is_target(at.offset)
 }
 
-// Whether an instruction obeys one of the rules 1 to 5; the passes do not ask for rule 6, which is tested as the fifth here. A match on
-// the case and no closures: the test is chosen anew at each instruction, since one reading of the code asks all five.
+// Whether an instruction obeys one of the rules 1 to 5; rule 6 is tested as the fifth, and the check does not ask for it here. A match
+// on the case and no closures: the test is chosen anew at each instruction, since one reading of the code asks all five.
 pub fn obeys(rule: Rule, at: &Instruction) -> bool
     ensures { result ≡ test_of gpu at.now.marked.now.code.now rule (gpu.base + at.now.offset) at.now.before }
 {
